@@ -1,7 +1,6 @@
 -- What is due for the texts of a run of traces.
-use Rattle.std.proofs.Common.{refl, sym, ap, subst, ◌∙◌, arith, inl, inr}
-use Rattle.std.specs.Prelude.{ℕ, ◌≡◌, List, Option, Some, None, IfErr, IfOk, IfSome, IsErrAnd, OnOk, Result, Ok, Err, option_map}
-use Rattle.std.specs.Io.KnownBytes.{Appends}
+use Rattle.std.proofs.Common.{refl, sym, ap, subst, ◌∙◌, arith}
+use Rattle.std.specs.Prelude.{ℕ, ◌≡◌, List, Option, Some, None, IfOk, IfSome, IsErrAnd, OnOk, Result, Ok, Err, option_map}
 use Rattle.rx_term.specs.Store.{Store}
 use Rattle.rx_term.specs.declared.Term.{Term as Reference}
 use Rattle.rx_text.proofs.UniqueLemmas.{one_tree}
@@ -12,16 +11,13 @@ use Rattle.rec_sorts.specs.SpecRules.{Verdict, Long, Grammar, Breaks, Good, Spec
 use Rattle.rec_sorts.specs.TermRules.{broken_by_terms, elements}
 use Rattle.rx_run.specs.Due.{Due}
 use Rattle.rx_run.specs.Refusals.{refusal_due}
-use Rattle.rx_run.specs.Run.{Stops, fault_of_read}
-use Rattle.rx_run.specs.declared.ending.Finish.{Finish}
+use Rattle.rx_run.specs.Run.{fault_of_read}
 use Rattle.rx_run.specs.declared.ending.RunFault.{RunFault}
-use Rattle.rx_run.specs.declared.ending.RunFault.TheVariants.{Write}
 use Rattle.rx_run.specs.declared.refusal.Reading.{Reading}
 use Rattle.rx_run.specs.declared.refusal.Reading.TheVariants as reading
 use Rattle.rx_run.specs.declared.refusal.Refusal.{Refusal}
 use Rattle.rx_run.specs.declared.streams.ReadFault.{ReadFault}
 use Rattle.rx_run.specs.declared.streams.ReadFault.TheVariants as unreadable
-use Rattle.rx_run.proofs.ReadDueLemmas.{appends_flushed, flush_refused}
 use Rattle.rx_run.proofs.WholeRunLemmas.{same_refusal}
 use Rattle.rec_run.specs.GivenTerms.{EndsRefused, HoldsList, HoldsTerms, IsReady, IsRefusal, IsRefused}
 use Rattle.rec_run.specs.GivenTerms.{IsTermsRead, OnGoodSpec, OnRefusedSpec, job_alone_of, job_of, refused_terms}
@@ -30,7 +26,7 @@ use Rattle.rec_run.specs.Reading.{IsGood, IsSpecRead, IsSpecReading, KeepsText, 
 use Rattle.rec_run.specs.Run.{HasRoom, Texts, both_texts}
 use Rattle.rec_run.specs.declared.spec.reading.Job.{Job}
 use Rattle.rec_run.proofs.OneDueLemmas.{one_verdict}
-use Rattle.rec_look.specs.Inner.Due.{EndsBehind, IsTraceReadAs, IsTraceReadFrom, trace_due}
+use Rattle.rec_look.specs.Inner.Due.{IsTraceReadAs, IsTraceReadFrom, trace_due}
 use Rattle.rec_look.specs.Traces.{IsTraceDueAfter, IsTraceDueFor, OneTraceDue, Shown, trace_due_of_spec, trace_due_of_terms}
 
 -- ---- one thing is due at most
@@ -205,35 +201,3 @@ pub terms_out : {X E : Type 0} (P : Type 0) (result : Result X E) (bytes : Optio
 terms_out P (Err e) bytes first h k = tt
 terms_out P (Ok x) None first h k = tt
 terms_out P (Ok x) (Some b) first (v, h, came) k = λ y is. k (good_reading first v y came (one_verdict b v (Good y) h is))
-
--- ---- how a run ends
-
-module _ (finish : Finish) (mid new : Option (List ℕ)) where
-  pub ends_behind : (written : Result (Unit {0}) RunFault) (r : Result Finish RunFault) → EndsBehind written finish mid new r → IfOk r (λ f. f ≡ finish)
-  ends_behind written (Err f) h = tt
-  ends_behind (Ok u) (Ok f) (k, inl e) = cc e
-  ends_behind (Ok u) (Ok f) (k, inr e) = absurd (cc e)
-  ends_behind (Err g) (Ok f) (e, k) = absurd (cc e)
-
-  pub ok_behind : (text : List ℕ) (old : Option (List ℕ)) (written : Result (Unit {0}) RunFault) (r : Result Finish RunFault)
-      → EndsBehind written finish mid new r → OnOk written (Appends old mid text) → OnOk r (Appends old new text)
-  ok_behind text old written (Err f) h a = tt
-  ok_behind text old (Ok u) (Ok f) (k, e) a = appends_flushed text old mid new a k
-  ok_behind text old (Err g) (Ok f) (e, k) a = absurd (cc e)
-
-  pub err_behind : (text : List ℕ) (old : Option (List ℕ)) (written : Result (Unit {0}) RunFault) (r : Result Finish RunFault)
-      → EndsBehind written finish mid new r → OnOk written (Appends old mid text) → IfErr written (λ f. Stops f text old mid)
-      → IfErr r (λ f. Stops f text old new)
-  err_behind text old written (Ok f) h a s = tt
-  err_behind text old (Ok u) (Err f) (k, inl e) a s = absurd (cc e)
-  err_behind text old (Ok u) (Err f) (k, inr e) a s = let same : Write ≡ f = cc e in subst (λ g. Stops g text old new) same (flush_refused text old mid new a k)
-  err_behind text old (Err g) (Err f) (e, k) a s =
-      let same : g ≡ f = cc e in
-      subst (λ g. Stops g text old new) same (subst (Stops g text old) (sym k) s)
-
-  pub fault_behind : (P : RunFault → Type 0) → P Write → (written : Result (Unit {0}) RunFault) (r : Result Finish RunFault)
-      → EndsBehind written finish mid new r → IfErr written P → IfErr r P
-  fault_behind P write written (Ok f) h p = tt
-  fault_behind P write (Ok u) (Err f) (k, inl e) p = absurd (cc e)
-  fault_behind P write (Ok u) (Err f) (k, inr e) p = let same : Write ≡ f = cc e in subst P same write
-  fault_behind P write (Err g) (Err f) (e, k) p = let same : g ≡ f = cc e in subst P same p

@@ -9,7 +9,7 @@ use Rattle.rec_trace.specs.Trace.{Traced}
 use Rattle.rec_look.specs.Picks.{Picks, front_lines, last_lines, more_line}
 use Rattle.rec_look.specs.Inner.Telling.{HasKept, end_line, steps_lines, texts_of, told}
 use Rattle.rec_look.specs.Traces.{Shown, picked_lines}
-use Rattle.rec_look.specs.declared.trace.kept.Kept.{Kept}
+use Rattle.rec_look.specs.declared.kept.Kept.{Kept}
 use Rattle.rec_look.proofs.TellingLemmas.{joined-append}
 
 -- as one text

@@ -21,7 +21,7 @@ use Rattle.rec_sorts.specs.declared.letters.Letter.{Letter}
 use Rattle.rec_engine.specs.Engine.{Spells}
 use Rattle.rec_run.specs.Output.{notes_text}
 use Rattle.rec_look.specs.Inner.Telling.{AreGivenTerms, HasNotes}
-use Rattle.rec_look.specs.declared.trace.given.GivenTerms.{GivenTerms}
+use Rattle.rec_look.specs.declared.given.GivenTerms.{GivenTerms}
 use Rattle.rec_look.proofs.TaskLemmas.{pairwise-at, pairwise-length, pairwise-push}
 use Rattle.rec_run.proofs.GivenLemmas.{any_parts, not_passed}
 use Rattle.rec_run.specs.GivenTerms.{item_at}

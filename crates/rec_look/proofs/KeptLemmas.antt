@@ -2,15 +2,15 @@
 use Rattle.std.proofs.Common.{refl, sym, ap, ap₂, subst, ◌∙◌, arith, append-nil, take_all}
 use Rattle.std.proofs.lemmas.List.{drop-append-le, drop-drop, drop-map, drop_all, length-append, length-drop, length-map, map-append, take-append-le}
 use Rattle.std.proofs.Math.Seq.{drop-append_seam, drop-nil}
-use Rattle.std.specs.Prelude.{ℕ, zero, suc, ◌≡◌, ◌-◌, ◌+◌, ◌<◌, ◌≤◌, ◌==◌, Bool, true, false, List, [], ◌∷◌, ◌++◌}
-use Rattle.std.specs.Prelude.{OnOk, Option, Some, None, Result, Ok, Err, Vec, drop, if◌then◌else◌, length, map, take}
+use Rattle.std.specs.Prelude.{ℕ, zero, suc, ◌≡◌, ◌-◌, ◌+◌, ◌≤◌, ◌==◌, Bool, true, false, List, [], ◌∷◌, ◌++◌}
+use Rattle.std.specs.Prelude.{OnOk, Option, Some, None, Result, Ok, Err, Vec, drop, if◌then◌else◌, length, take}
 use Rattle.std.specs.declared.alloc.Global.{Global}
 use Rattle.std.proofs.lemmas.Bool.{eqb-true}
 use Rattle.rec_look.specs.Picks.{Picks, back_count, front_lines, left_out_count, rest_lines}
 use Rattle.rec_look.specs.Inner.Telling.{HasKept, fresh_lines, front_left, place_of, texts_of}
-use Rattle.rec_look.specs.declared.trace.kept.Kept.{Kept}
-use Rattle.rec_look.specs.declared.trace.kept.Place.{Place}
-use Rattle.rec_look.specs.declared.trace.kept.Place.TheVariants.{Front, Behind, Nowhere}
+use Rattle.rec_look.specs.declared.kept.Kept.{Kept}
+use Rattle.rec_look.specs.declared.kept.Place.{Place}
+use Rattle.rec_look.specs.declared.kept.Place.TheVariants.{Front, Behind, Nowhere}
 use Rattle.rec_look.proofs.PickLemmas.{bounded}
 
 -- ---- what becomes of a line

@@ -1,11 +1,11 @@
 -- The lines of traces that are none of evaluation's.
-use Rattle.std.proofs.Common.{refl, sym, ap, ap₂, ◌∙◌, arith, append_assoc, append-nil, take_all}
-use Rattle.std.proofs.lemmas.Bool.{eqb-true, leb-true}
+use Rattle.std.proofs.Common.{refl, sym, ap, ap₂, ◌∙◌, arith, append-nil, take_all}
+use Rattle.std.proofs.lemmas.Bool.{eqb-true}
 use Rattle.std.proofs.lemmas.List.{drop_all}
 use Rattle.std.proofs.lemmas.List.Elements.{filter-append}
 use Rattle.std.specs.List.{list_all}
-use Rattle.std.specs.Prelude.{ℕ, zero, suc, ◌≡◌, ◌-◌, ◌<◌, ◌≤◌, ◌^◌, ◌&&◌, ◌||◌, Bool, true, false, not, cond, List, [], ◌∷◌, ◌++◌}
-use Rattle.std.specs.Prelude.{Option, Some, None, codes, decimal, drop, filter, flat_map, length, map, nat_eq, nat_le, take}
+use Rattle.std.specs.Prelude.{ℕ, zero, suc, ◌≡◌, ◌-◌, ◌<◌, ◌^◌, ◌&&◌, ◌||◌, Bool, true, false, not, cond, List, [], ◌∷◌, ◌++◌}
+use Rattle.std.specs.Prelude.{Option, Some, None, codes, decimal, drop, filter, flat_map, length, map, nat_eq, take}
 use Rattle.std.specs.Fmt.{digits}
 use Rattle.rx_term.specs.Name.{plain_name, starts_name, continues_name}
 use Rattle.rx_term.specs.Tree.{Tree, Trees, Appl, Int, Items, Hole, annotated}
@@ -18,11 +18,11 @@ use Rattle.rec_engine.proofs.ValueTreeLemmas.{IsApplied, value_is_applied}
 use Rattle.rx_run.specs.Due.{steps_text}
 use Rattle.rec_run.specs.Output.{Task, bare, limit_text, line, tasks}
 use Rattle.rec_run.specs.declared.options.LimitLines.TheVariants.{Bare}
-use Rattle.rec_trace.specs.Lines.{begins_with_digit, cut, firing_line, place_text, spent_text, term_lines, value_line, whole_line, whole_text}
+use Rattle.rec_trace.specs.Lines.{begins_with_digit, cut, firing_line, place_text, spent_text, value_line, whole_line, whole_text}
 use Rattle.rec_trace.specs.Trace.{Firing, Trace}
 use Rattle.rec_trace.proofs.LineLemmas.{firing_line_law, value_line_law}
 use Rattle.rec_trace.proofs.TraceLemmas.{trace_law}
-use Rattle.rec_look.specs.Picks.{Picks, all_picked, by_threes, front_lines, is_picked, last_lines, left_out_count, more_line, rest_lines, shown_lines}
+use Rattle.rec_look.specs.Picks.{Picks, by_threes, front_lines, is_picked, last_lines, left_out_count, more_line, rest_lines, shown_lines}
 use Rattle.rec_look.specs.Traces.{DigitsLaw, Shown, ValuesLaw, WholeTraceLaw, begins_with_dot, first_lines, picked_lines, step_line, task_lines}
 use Rattle.rec_look.proofs.PickLemmas.{bounded}
 

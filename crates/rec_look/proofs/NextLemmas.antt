@@ -6,9 +6,9 @@ use Rattle.rec_trace.specs.Trace.{Firing}
 use Rattle.rec_look.specs.Picks.{Picks, is_picked, picks_by}
 use Rattle.rec_look.specs.Inner.Telling.{HasKept, TakesUp, fresh_lines, place_of}
 use Rattle.rec_look.specs.Traces.{Shown, picked_lines, shown_by, step_line}
-use Rattle.rec_look.specs.declared.trace.kept.Kept.{Kept}
-use Rattle.rec_look.specs.declared.trace.kept.Place.TheVariants.{Front, Behind, Nowhere}
-use Rattle.rec_look.specs.declared.trace.options.TraceOptions.{TraceOptions}
+use Rattle.rec_look.specs.declared.kept.Kept.{Kept}
+use Rattle.rec_look.specs.declared.kept.Place.TheVariants.{Front, Behind, Nowhere}
+use Rattle.rec_look.specs.declared.options.TraceOptions.{TraceOptions}
 use Rattle.rec_look.proofs.KeptLemmas.{fresh-behind, fresh-front, fresh-none, fresh-nowhere, kept-counted}
 
 module _ (source : List ℕ) (options : TraceOptions) (before : List (List ℕ)) (f : Firing) where

@@ -11,7 +11,7 @@ use Rattle.rx_run.specs.declared.ending.RunFault.TheVariants as fault
 use Rattle.rx_run.proofs.NewlineLemmas.{newlines-append}
 use Rattle.rec_engine.specs.declared.cells.EngineFault.{EngineFault}
 use Rattle.rec_engine.specs.declared.cells.EngineFault.TheVariants as engine
-use Rattle.rec_look.specs.Inner.Pages.{Breaks, Prints, stopped_after}
+use Rattle.rec_look.specs.Inner.Pages.{Breaks, Prints, fault_after}
 
 reports-later : (f : RunFault) (lines more : ℕ) (before written : List ℕ) → more ≡ lines + newlines before → ReportsAfter more f written
     → ReportsAfter lines f (before ++ written)
@@ -26,7 +26,7 @@ reports-first (fault.Room k) written h = omega (arith, h)
 reports-first fault.Read written h = absurd h
 reports-first fault.Write written h = tt
 
-reports-none : (f : EngineFault) (lines : ℕ) → ReportsAfter lines (stopped_after f lines) []
+reports-none : (f : EngineFault) (lines : ℕ) → ReportsAfter lines (fault_after f lines) []
 reports-none engine.Memory lines = omega arith
 reports-none engine.Room lines = omega arith
 
@@ -68,7 +68,7 @@ module _ {W : Type 0} (contents : W → Option (List ℕ)) where
   }
 
   -- nothing was written where an engine gave up
-  pub breaks-engine : (out : Output W) (lines : ℕ) (text : List ℕ) (f : EngineFault) → Breaks contents out out lines text (stopped_after f lines)
+  pub breaks-engine : (out : Output W) (lines : ℕ) (text : List ℕ) (f : EngineFault) → Breaks contents out out lines text (fault_after f lines)
   breaks-engine out lines text f = record {
     written = [];
     appended = appends_same (contents_of contents out);
@@ -77,9 +77,9 @@ module _ {W : Type 0} (contents : W → Option (List ℕ)) where
         reports-none f lines;
   }
 
-  pub breaks-stopped : (out : Output W) (lines : ℕ) (text : List ℕ) (f : EngineFault) (fault : RunFault) → fault ≡ stopped_after f lines
+  pub breaks-after : (out : Output W) (lines : ℕ) (text : List ℕ) (f : EngineFault) (fault : RunFault) → fault ≡ fault_after f lines
       → Breaks contents out out lines text fault
-  breaks-stopped out lines text f fault e = subst (λ z. Breaks contents out out lines text z) (sym e) (breaks-engine out lines text f)
+  breaks-after out lines text f fault e = subst (λ z. Breaks contents out out lines text z) (sym e) (breaks-engine out lines text f)
 
   pub breaks-memory : (out : Output W) (lines : ℕ) (text : List ℕ) → Breaks contents out out lines text (fault.Memory lines)
   breaks-memory out lines text = breaks-engine out lines text engine.Memory

@@ -1,10 +1,10 @@
 -- Which of the lines of picked firings are written, as more of them come.
-use Rattle.std.proofs.Common.{refl, sym, ap, ap₂, ◌∙◌, arith, inl, inr, append_assoc, append-nil, take_all}
+use Rattle.std.proofs.Common.{sym, ap, ◌∙◌, arith, inl, inr, append_assoc, append-nil, take_all}
 use Rattle.std.proofs.lemmas.Bool.{cases_lt}
-use Rattle.std.proofs.lemmas.List.{append_cancel_left, length-append, map-append, take-append-le}
+use Rattle.std.proofs.lemmas.List.{append_cancel_left, map-append, take-append-le}
 use Rattle.std.proofs.lemmas.List.Elements.{filter-append}
 use Rattle.std.proofs.Math.Seq.{drop-append_seam, take-append-add, take-nil}
-use Rattle.std.specs.Prelude.{ℕ, ◌≡◌, ◌-◌, ◌+◌, ◌<◌, ◌≤◌, ◌⊎◌, List, [], ◌∷◌, ◌++◌, Option, Some, None, drop, filter, length, map, take}
+use Rattle.std.specs.Prelude.{ℕ, ◌≡◌, ◌-◌, ◌+◌, ◌<◌, ◌≤◌, ◌⊎◌, List, [], ◌++◌, Option, Some, None, drop, filter, length, map, take}
 use Rattle.rec_trace.specs.Trace.{Firing}
 use Rattle.rec_look.specs.Picks.{Picks, front_lines, is_picked, last_lines, shown_lines}
 use Rattle.rec_look.specs.Inner.Telling.{fresh_lines, lines_behind}

@@ -24,8 +24,8 @@ use Rattle.rec_look.specs.Picks.{Picks, front_lines, picks_by, shown_lines}
 use Rattle.rec_trace.specs.Lines.{rule_spot}
 use Rattle.rec_look.specs.Inner.Telling.{HasKept, HasTold, IsEnd, IsTelling, IsWithin, Tells, end_line, fresh_lines, lines_behind, told, told_behind}
 use Rattle.rec_look.specs.Traces.{Shown, picked_lines, shown_by, step_line}
-use Rattle.rec_look.specs.declared.trace.kept.Kept.{Kept}
-use Rattle.rec_look.specs.declared.trace.telling.Telling.{Telling}
+use Rattle.rec_look.specs.declared.kept.Kept.{Kept}
+use Rattle.rec_look.specs.declared.telling.Telling.{Telling}
 use Rattle.rec_look.proofs.PageLemmas.{breaks-before, breaks-behind, prints-both, prints-none}
 use Rattle.rec_look.proofs.PickLemmas.{behind-more, behind-none, front-more, front-none, picked-append, shown-more}
 use Rattle.rec_look.proofs.TellingLemmas.{joined-append, within-end, within-next}

@@ -7,8 +7,8 @@ use Rattle.rx_term.specs.Tree.{Tree, Appl}
 use Rattle.rec_trace.specs.Lines.{rule_spot}
 use Rattle.rec_trace.specs.Trace.{Firing}
 use Rattle.rec_trace.specs.declared.lines.Spot.{Spot}
-use Rattle.rec_look.specs.declared.trace.picked.Picked.{Picked}
-use Rattle.rec_look.specs.declared.trace.picked.RulePlace.{RulePlace}
+use Rattle.rec_look.specs.declared.picked.Picked.{Picked}
+use Rattle.rec_look.specs.declared.picked.RulePlace.{RulePlace}
 
 -- what is asked for: the place at which the rule begins, the symbol of the call that is rewritten,
 -- how many in front, and how many at the end

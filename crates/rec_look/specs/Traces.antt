@@ -13,7 +13,7 @@ use Rattle.rec_run.specs.Run.{Texts}
 use Rattle.rec_trace.specs.Lines.{begins_with_digit, firing_line, joined, term_lines, value_line, whole_line, whole_text}
 use Rattle.rec_trace.specs.Trace.{Firing, Trace}
 use Rattle.rec_look.specs.Picks.{Picks, all_picked, is_picked, picks_by, shown_lines}
-use Rattle.rec_look.specs.declared.trace.options.TraceOptions.{TraceOptions}
+use Rattle.rec_look.specs.declared.options.TraceOptions.{TraceOptions}
 
 -- how traces look: whether the whole term stands behind each firing, whether the steps spent do,
 -- how many bytes a term has at most, and which firings are told

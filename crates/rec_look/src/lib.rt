@@ -2,10 +2,24 @@
 //! go out.
 #![tactic(auto)]
 
+mod due;
+mod ending;
+mod fired;
+mod firings;
+mod given;
+mod kept;
 pub mod laws;
-mod trace;
+mod next;
+mod options;
+mod page;
+mod picked;
+mod reading;
+mod runs;
+mod steps;
+mod telling;
+mod terms;
 
+pub use options::TraceOptions;
+pub use picked::{Picked, RulePlace};
 pub use rec_trace::{Spot, rule_spots};
-pub use trace::options::TraceOptions;
-pub use trace::picked::{Picked, RulePlace};
-pub use trace::runs::run_trace;
+pub use runs::run_trace;

@@ -1,5 +1,5 @@
 -- What holds of an end holds of it as it is told where nothing was said of how many calls may wait.
-use Rattle.std.proofs.Common.{◌≡◌, ◌≢◌, ◌∙◌, ℕ, List, Option, Some, None, Result, Ok, Err, IfErr, IfOk, OnErr, OnOk, refl, ap, sym, subst}
+use Rattle.std.proofs.Common.{◌≡◌, ◌≢◌, ◌∙◌, ℕ, List, Option, Some, None, Result, Ok, Err, IfErr, IfOk, OnOk, refl, ap, sym, subst}
 use Rattle.rx_term.specs.Store.{Store}
 use Rattle.rx_term.specs.declared.Term.{Term}
 use Rattle.rec_memo.specs.Pairs.{Pairs}
@@ -165,11 +165,6 @@ told_on P (Err g) (Err f) e h = tt
 pub on_told : {A : Type 0} (P : Type 0) (r : Result A RunDepthFault) → OnOk (unbounded r) P → OnOk r P
 on_told P (Ok a) h = h
 on_told P (Err f) h = tt
-
--- what holds where there is none
-pub off_told : {A : Type 0} (P : Type 0) (r : Result A RunDepthFault) → OnErr (unbounded r) P → OnErr r P
-off_told P (Ok a) h = tt
-off_told P (Err f) h = h
 
 -- what holds of an error holds of an end that is the same
 pub err_same : {A E : Type 0} (P : E → Type 0) (x r : Result A E) → r ≡ x → IfErr x P → IfErr r P

@@ -16,4 +16,5 @@ mod TermRows
 mod DueRows
 mod GivenRows
 mod ReadsLemmas
+mod PlacedLemmas
 mod RefusedItemLemmas

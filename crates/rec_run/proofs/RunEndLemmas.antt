@@ -3,31 +3,31 @@ use Rattle.std.proofs.Common.{◌≡◌, ℕ, List, Option, Result, Ok, Err, IfE
 use Rattle.std.specs.Io.KnownBytes.{Appends}
 use Rattle.rx_run.specs.Run.{Stops}
 use Rattle.rec_run.specs.Depth.{EndsBehind, unbounded, unbounded_fault}
-use Rattle.rx_run.specs.declared.ending.Finish.{Finish}
 use Rattle.rx_run.specs.declared.ending.RunFault.TheVariants.{Write}
+use Rattle.rx_run.specs.declared.refusal.Ending.{Ending}
 use Rattle.rec_run.specs.declared.depth.RunDepthFault.{RunDepthFault}
 use Rattle.rec_run.specs.declared.depth.RunDepthFault.TheVariants.{Run}
 use Rattle.rx_run.proofs.ReadDueLemmas.{appends_flushed, flush_refused}
 
-module _ (finish : Finish) (mid new : Option (List ℕ)) where
+module _ (ending : Ending) (mid new : Option (List ℕ)) where
   -- it ended as was said
-  pub ends_behind : (written : Result (Unit {0}) RunDepthFault) (r : Result Finish RunDepthFault) → EndsBehind written finish mid new r
-      → IfOk (unbounded r) (λ f. f ≡ finish)
+  pub ends_behind : (written : Result (Unit {0}) RunDepthFault) (r : Result Ending RunDepthFault) → EndsBehind written ending mid new r
+      → IfOk (unbounded r) (λ e. e ≡ ending)
   ends_behind written (Err f) h = tt
   ends_behind (Ok u) (Ok f) (k, inl e) = cc e
   ends_behind (Ok u) (Ok f) (k, inr e) = absurd (cc e)
   ends_behind (Err g) (Ok f) (e, k) = absurd (cc e)
 
   -- all was written and flushed
-  pub ok_behind : (text : List ℕ) (old : Option (List ℕ)) (written : Result (Unit {0}) RunDepthFault) (r : Result Finish RunDepthFault)
-      → EndsBehind written finish mid new r → OnOk (unbounded written) (Appends old mid text) → OnOk (unbounded r) (Appends old new text)
+  pub ok_behind : (text : List ℕ) (old : Option (List ℕ)) (written : Result (Unit {0}) RunDepthFault) (r : Result Ending RunDepthFault)
+      → EndsBehind written ending mid new r → OnOk (unbounded written) (Appends old mid text) → OnOk (unbounded r) (Appends old new text)
   ok_behind text old written (Err f) h a = tt
   ok_behind text old (Ok u) (Ok f) (k, e) a = appends_flushed text old mid new a k
   ok_behind text old (Err g) (Ok f) (e, k) a = absurd (cc e)
 
   -- a front was written before a fault
-  pub err_behind : (text : List ℕ) (old : Option (List ℕ)) (written : Result (Unit {0}) RunDepthFault) (r : Result Finish RunDepthFault)
-      → EndsBehind written finish mid new r → OnOk (unbounded written) (Appends old mid text) → IfErr (unbounded written) (λ f. Stops f text old mid)
+  pub err_behind : (text : List ℕ) (old : Option (List ℕ)) (written : Result (Unit {0}) RunDepthFault) (r : Result Ending RunDepthFault)
+      → EndsBehind written ending mid new r → OnOk (unbounded written) (Appends old mid text) → IfErr (unbounded written) (λ f. Stops f text old mid)
       → IfErr (unbounded r) (λ f. Stops f text old new)
   err_behind text old written (Ok f) h a s = tt
   err_behind text old (Ok u) (Err f) (k, inl e) a s = absurd (cc e)
@@ -38,8 +38,8 @@ module _ (finish : Finish) (mid new : Option (List ℕ)) where
       subst (λ g. Stops (unbounded_fault g) text old new) same (subst (Stops (unbounded_fault g) text old) (sym k) s)
 
   -- what holds of the fault that stopped it, and of the writer's, holds of its fault
-  pub fault_behind : (P : RunDepthFault → Type 0) → P (Run Write) → (written : Result (Unit {0}) RunDepthFault) (r : Result Finish RunDepthFault)
-      → EndsBehind written finish mid new r → IfErr written P → IfErr r P
+  pub fault_behind : (P : RunDepthFault → Type 0) → P (Run Write) → (written : Result (Unit {0}) RunDepthFault) (r : Result Ending RunDepthFault)
+      → EndsBehind written ending mid new r → IfErr written P → IfErr r P
   fault_behind P write written (Ok f) h p = tt
   fault_behind P write (Ok u) (Err f) (k, inl e) p = absurd (cc e)
   fault_behind P write (Ok u) (Err f) (k, inr e) p = let same : Run Write ≡ f = cc e in subst P same write

@@ -12,9 +12,12 @@ use Rattle.rec_engine.specs.declared.cells.EngineFault.TheVariants as unlimited
 use Rattle.rec_engine.specs.Depth.{DeepOnly}
 use Rattle.rec_engine.specs.declared.depth.DepthFault.{DepthFault}
 use Rattle.rec_engine.specs.declared.depth.DepthFault.TheVariants as engine
+use Rattle.rx_run.specs.Refusals.{finish_of, place_of}
 use Rattle.rx_run.specs.declared.ending.Finish.{Finish}
+use Rattle.rx_run.specs.declared.ending.Place.{Place}
 use Rattle.rx_run.specs.declared.ending.RunFault.{RunFault}
 use Rattle.rx_run.specs.declared.ending.RunFault.TheVariants as run
+use Rattle.rx_run.specs.declared.refusal.Ending.{Ending}
 use Rattle.rec_run.specs.EvaluatedLines.{fault_after}
 use Rattle.rec_run.specs.Run.{HasRoom}
 use Rattle.rec_run.specs.declared.depth.RunDepthFault.{RunDepthFault}
@@ -64,6 +67,15 @@ abbrev pub unbounded : {A : Type 0} → Result A RunDepthFault → Result A RunF
 unbounded (Ok a) = Ok a
 unbounded (Err f) = Err (unbounded_fault f)
 
+-- the same without the refusal, and its place
+abbrev pub finish_told : Result Ending RunDepthFault → Result Finish RunFault
+finish_told (Ok ending) = Ok (finish_of ending)
+finish_told (Err f) = Err (unbounded_fault f)
+
+abbrev pub place_told : Result Ending RunDepthFault → Option Place
+place_told (Ok ending) = place_of ending
+place_told (Err f) = None
+
 -- the run's fault where a line's came after so many lines
 abbrev pub after_lines : LineDepthFault → ℕ → RunDepthFault
 after_lines (line.Line f) lines = Run (fault_after f lines)
@@ -94,7 +106,7 @@ HasRoomWithin (Deep lines) = ⊥
 
 -- what a run answers behind what was written: the fault that stopped it, or, after a flush, how it
 -- ends or that the writer refused to flush
-abbrev pub EndsBehind : Result (Unit {0}) RunDepthFault → Finish → Option (List ℕ) → Option (List ℕ)
-    → Result Finish RunDepthFault → Type 0
-EndsBehind (Ok u) finish old new r = Keeps old new × ((r ≡ Ok finish) ⊎ (r ≡ Err (Run run.Write)))
-EndsBehind (Err f) finish old new r = (r ≡ Err f) × (new ≡ old)
+abbrev pub EndsBehind : Result (Unit {0}) RunDepthFault → Ending → Option (List ℕ) → Option (List ℕ)
+    → Result Ending RunDepthFault → Type 0
+EndsBehind (Ok u) ending old new r = Keeps old new × ((r ≡ Ok ending) ⊎ (r ≡ Err (Run run.Write)))
+EndsBehind (Err f) ending old new r = (r ≡ Err f) × (new ≡ old)

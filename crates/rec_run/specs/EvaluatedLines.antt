@@ -4,7 +4,8 @@
 --     due_before fault text          of a line with this text, what is due before a fault
 --     fault_after fault lines        the run's fault where a line's came after so many lines
 --     RunLacks w work m fault        want of cells comes where all that is held is needed
-use Rattle.std.specs.Prelude.{ℕ, ◌≡◌, ◌<◌, Bool, List, [], ◌++◌, IsSome, Result, MatchResult, codes, decimal}
+use Rattle.std.specs.Prelude.{ℕ, ◌≡◌, ◌<◌, Bool, List, [], ◌++◌, IsSome, Result, MatchResult, codes}
+use Rattle.std.specs.Prelude.{decimal}
 use Rattle.rx_term.specs.Steps.{Keeps}
 use Rattle.rx_term.specs.Store.{Store, tree_at}
 use Rattle.rx_term.specs.Tree.{Trees}

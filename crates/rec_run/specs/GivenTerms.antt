@@ -4,7 +4,8 @@
 --     HoldsTerms y w r           they keep the rules
 --     run_due w shown n r      what is due for what the texts came to, by the trees of a bank
 --     given_text y shown n u   the line of a given term without the line end
-use Rattle.std.specs.Prelude.{ℕ, ◌≡◌, List, [], ◌++◌, Option, Some, None, IfSome, Result, Ok, Err, codes, flat_map, unwrap_or}
+use Rattle.std.specs.Prelude.{ℕ, ◌≡◌, List, [], ◌++◌, Option, Some, None, IfSome, Result, Ok, Err}
+use Rattle.std.specs.Prelude.{codes, flat_map, unwrap_or}
 use Rattle.std.specs.Option.{ForSome}
 use Rattle.rx_term.specs.Tree.{Tree, none, annotations, from_list, list_of}
 use Rattle.rx_term.specs.Store.{Store, tree_at}
@@ -19,7 +20,8 @@ use Rattle.rec_sorts.specs.declared.fault.TermsFault.{TermsFault}
 use Rattle.rec_sorts.specs.declared.fault.TermsFault.TheVariants as rule
 use Rattle.rx_run.specs.Due.{Due, done}
 use Rattle.rec_run.specs.Output.{Shown, IsDueAfter, lines}
-use Rattle.rec_run.specs.Output.{TermsVerdict, TooLong, Outside, BreaksTerms, GoodTerms, IsTermsVerdict}
+use Rattle.rec_run.specs.Output.{TermsVerdict, TooLong, Outside, BreaksTerms, GoodTerms}
+use Rattle.rec_run.specs.Output.{IsTermsVerdict}
 use Rattle.rec_run.specs.Reading.{evaluation_text}
 use Rattle.rx_run.specs.Refusals.{reading_due}
 use Rattle.rec_run.specs.Run.{HasRoom, IsDueFor, Texts}

@@ -3,7 +3,8 @@
 --     lines y given shown n       the lines of a specification's own terms and of given ones
 --     IsTermsVerdict y bytes v    the verdict on a text of terms
 --     IsDue spec terms shown n d  what is due for the two texts
-use Rattle.std.specs.Prelude.{ℕ, ◌-◌, ◌≡◌, ◌<◌, length, Option, Some, None, Bool, List, [], ◌++◌, codes, decimal, map, flat_map}
+use Rattle.std.specs.Prelude.{ℕ, ◌-◌, ◌≡◌, ◌<◌, length, Option, Some, None, Bool, List, [], ◌++◌}
+use Rattle.std.specs.Prelude.{codes, decimal, map, flat_map}
 use Rattle.rx_term.specs.Tree.{Tree, Trees, none, annotated, annotations}
 use Rattle.rx_text.specs.Grammar.{Spells}
 use Rattle.rx_text.specs.Place.{IsFaultPlace}

@@ -4,7 +4,8 @@
 --     RoomExhausts w needed fault     want of cells comes where all that is held is needed
 --     RoomIn old new needed fault     want of cells comes there, or where a text filled the bank
 --     HasRoom fault                   the fault is not want of cells
-use Rattle.std.specs.Prelude.{◌≡◌, ◌⊎◌, ℕ, List, [], Option, Some, None, IfSome, Result, MatchResult, option_map}
+use Rattle.std.specs.Prelude.{◌≡◌, ◌⊎◌, ℕ, List, [], Option, Some, None, IfSome, Result}
+use Rattle.std.specs.Prelude.{MatchResult, option_map}
 use Rattle.std.proofs.Common.{inl, inr}
 use Rattle.std.specs.Borrow.{MutBor}
 use Rattle.rx_term.specs.Steps.{IsExhausted}
@@ -56,8 +57,8 @@ abbrev pub HasRoom : RunFault → Type 0
 HasRoom (Room lines) = ⊥
 HasRoom f = Unit {0}
 
--- no cell is left, and each tree that is held is a part of a protected one or of one that is needed;
--- these are held
+-- no cell is left, and each tree that is held is a part of a protected one or of one that is
+-- needed; these are held
 pub record NeedsAll (w : Store) (needed : List Term) : Type 0 where
   pub exhausted : IsExhausted w needed
   pub held : AllHeld w needed

@@ -31,7 +31,7 @@ impl From<RunFault> for RunDepthFault {
 
 /// A run's end as it is told where nothing is said of how many calls may wait: too deep is want of
 /// memory there.
-pub fn unbounded<T>(end: Result<T, RunDepthFault>) -> Result<T, RunFault>
+pub fn unbounded_end<T>(end: Result<T, RunDepthFault>) -> Result<T, RunFault>
     ensures { result ≡ unbounded end }
 {
     match end {

@@ -15,9 +15,10 @@ pub use options::{LimitLines, RunOptions, RunSettings};
 pub use rec_engine::{RuleCount, Tally, Unwatched, Watch};
 pub use refused_items::refused_term;
 pub use rx_run::{
-    Finish, Misfit, Named, Place, RunFault, Source, refused_argument, run_aterm, run_aterm_at,
-    run_aterm_in, run_make, run_make_at, run_make_in, run_match, run_match_at, run_match_in,
-    run_share, run_share_at, run_share_in,
+    Ending, Finish, Misfit, Named, Place, Reason, Refusal, RunFault, Source, make_term, match_term,
+    print_term, refused_argument, run_aterm, run_aterm_at, run_aterm_in, run_make, run_make_at,
+    run_make_in, run_match, run_match_at, run_match_in, run_share, run_share_at, run_share_in,
+    share_term,
 };
 pub use spec::banks::{Ended, run_in};
 pub use spec::evaluated::engine_over;
@@ -27,8 +28,9 @@ pub use spec::evaluation::{
 };
 pub use spec::lines::{LineFault, write_lines, write_lines_to, write_lines_within};
 pub use spec::outcome::{write_notes, write_notes_to, write_outcome, write_outcome_to};
+pub use spec::placed::{run, run_at};
 pub use spec::reading::{
     Job, read_alone, read_alone_from, read_both, read_both_from, read_spec_text,
     read_spec_text_from, read_terms_text, read_terms_text_from,
 };
-pub use spec::runs::{run, run_at, run_observed, run_with, run_within};
+pub use spec::runs::{run_observed, run_within};

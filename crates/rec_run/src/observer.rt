@@ -38,6 +38,14 @@ pub struct Observer<V, P> {
     pub profiler: P,
 }
 
+/// Nobody is told.
+pub(crate) fn nobody() -> Observer<Unwatched, Unwatched> {
+    Observer {
+        watch: Unwatched,
+        profiler: Unwatched,
+    }
+}
+
 impl<V, P: Profiler> Observer<V, P> {
     /// Counts from now on how often each rule of an engine is used, where that is asked for.
     /// Without memory for it nothing is counted.

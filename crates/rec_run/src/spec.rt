@@ -8,5 +8,6 @@ pub(crate) mod evaluated;
 pub(crate) mod evaluation;
 pub(crate) mod lines;
 pub(crate) mod outcome;
+pub(crate) mod placed;
 pub(crate) mod reading;
 pub(crate) mod runs;

@@ -1,24 +1,18 @@
 -- Whole runs, by the verdict on the specification.
-use Rattle.std.proofs.Common.{◌≡◌, ℕ, Bool, List, [], Option, Some, None, IfErr, IfSome, OnOk, Result, Ok, Err, refl, sym, ap, subst, ◌∙◌}
+use Rattle.std.proofs.Common.{◌≡◌, ℕ, Bool, List, [], Option, Some, None, IfErr, IfSome, OnOk, Result, Ok, Err, refl, ap, subst, ◌∙◌}
 use Rattle.rx_text.specs.Written.{AppendsFront}
 use Rattle.rx_text.proofs.AppendingLemmas.{appends_same}
 use Rattle.rec_syntax.specs.Syntax.{Sourced, Spec}
 use Rattle.rec_sorts.specs.SpecRules as verdict
 use Rattle.rec_sorts.specs.SpecRules.{Good, SpecVerdict, Verdict}
-use Rattle.rx_run.specs.Refusals.{place_of, refusal_due}
-use Rattle.rx_run.specs.declared.ending.Finish.{Finish}
-use Rattle.rx_run.specs.declared.ending.Place.{Place}
+use Rattle.rx_run.specs.declared.refusal.Ending.{Ending}
 use Rattle.rx_run.specs.declared.refusal.Reading.{Reading}
-use Rattle.rx_run.specs.declared.refusal.Reading.TheVariants as reading
-use Rattle.rx_run.specs.declared.refusal.Refusal.{Refusal}
 use Rattle.rx_run.specs.declared.streams.ReadFault.{ReadFault}
 use Rattle.rx_run.specs.declared.streams.ReadFault.TheVariants as unread
 use Rattle.rec_run.specs.GivenTerms.{IsRefusal, OnGoodSpec, OnRefusedSpec}
-use Rattle.rec_run.specs.Output.{bare, due_of_spec}
-use Rattle.rec_run.specs.Reading.{IsSpecRead, IsSpecReading, refused_spec}
+use Rattle.rec_run.specs.Reading.{IsSpecRead, IsSpecReading}
 use Rattle.rec_run.proofs.OneDueLemmas.{one_verdict}
-use Rattle.rx_run.proofs.WholeRunLemmas.{same_refusal}
-use Rattle.rec_serve.specs.Replies.{BreaksAfter, BreaksServing, PlacedServing, answered_before, unread_fault}
+use Rattle.rec_serve.specs.Replies.{BreaksAfter, BreaksServing, answered_before, unread_fault}
 use Rattle.rec_serve.specs.declared.ending.ServeFault.{ServeFault}
 use Rattle.rec_serve.proofs.ReplyLemmas.{breaks_at_once}
 
@@ -27,30 +21,14 @@ the_reading : (text : List ℕ) (r : Reading Sourced) (v : Verdict) → IsSpecRe
 the_reading text r v (w, h, is) k = subst (IsSpecReading r) (one_verdict text w v h k) is
 
 pub breaks_serving : (counted : Bool) (n : ℕ) (depth : Option ℕ) (spec known : Option (List ℕ)) (r : Reading Sourced)
-    (result : Result Finish ServeFault) (old new : Option (List ℕ)) → IfSome spec (λ text. IsSpecRead text r)
+    (result : Result Ending ServeFault) (old new : Option (List ℕ)) → IfSome spec (λ text. IsSpecRead text r)
     → IfErr result (λ fault. (v : Verdict) → IsSpecReading r v → BreaksAfter counted n depth v known fault old new)
     → IfErr result (λ fault. BreaksServing counted n depth spec known fault old new)
 breaks_serving counted n depth spec known r (Ok x) old new h k = tt
 breaks_serving counted n depth None known r (Err fault) old new h k = tt
 breaks_serving counted n depth (Some text) known r (Err fault) old new h k = λ v is. k v (the_reading text r v h is)
 
-refused_place : (counted : Bool) (n : ℕ) (r : Refusal) (v : Verdict) → refused_spec v ≡ Some r → (refusal_due r).place ≡ (due_of_spec (bare counted) n v).place
-refused_place counted n r verdict.Long e = ap (λ (x : Refusal). (refusal_due x).place) (same_refusal e)
-refused_place counted n r (verdict.Grammar at) e = ap (λ (x : Refusal). (refusal_due x).place) (same_refusal e)
-refused_place counted n r (verdict.Breaks f) e = ap (λ (x : Refusal). (refusal_due x).place) (same_refusal e)
-refused_place counted n r (Good y) e = absurd (cc e)
-
-read_place : (counted : Bool) (n : ℕ) (r : Reading Sourced) (v : Verdict) → IsSpecReading r v → place_of r ≡ (due_of_spec (bare counted) n v).place
-read_place counted n (reading.Refused r) v e = refused_place counted n r v e
-read_place counted n (reading.Good checked) v e = ap (λ x. (due_of_spec (bare counted) n x).place) (sym e)
-
-pub placed_serving : (counted : Bool) (n : ℕ) (spec : Option (List ℕ)) (r : Reading Sourced) (result : Result Finish ServeFault)
-    (place : Option Place) → IfSome spec (λ text. IsSpecRead text r) → OnOk result (place ≡ place_of r) → OnOk result (PlacedServing counted n spec place)
-placed_serving counted n spec r (Err fault) place h e = tt
-placed_serving counted n None r (Ok x) place h e = tt
-placed_serving counted n (Some text) r (Ok x) place (v, h, is) e = (v, h, e ∙ read_place counted n r v is)
-
-pub good_serving : (spec : Option (List ℕ)) (r : Reading Sourced) (result : Result Finish ServeFault) (P : Type 0)
+pub good_serving : (spec : Option (List ℕ)) (r : Reading Sourced) (result : Result Ending ServeFault) (P : Type 0)
     → IfSome spec (λ text. IsSpecRead text r) → OnOk result ((y : Spec) → IsSpecReading r (Good y) → P) → OnOk result (OnGoodSpec spec P)
 good_serving spec r (Err fault) P h k = tt
 good_serving None r (Ok x) P h k = tt

@@ -3,7 +3,8 @@
 --     refusal_line r           its line
 --     shown w counted n notes o   what is shown of what a term with annotations comes to
 --     IsAnswered y counted n r a  an answer is that to a request, and says why it is refused
-use Rattle.std.specs.Prelude.{ℕ, ◌≡◌, ◌⊎◌, Bool, Option, Some, Result, Ok, Err, List, [], ◌∷◌, ◌++◌, codes, decimal, option_map}
+use Rattle.std.specs.Prelude.{ℕ, ◌≡◌, ◌⊎◌, Bool, Option, Some, Result, Ok, Err, List, [], ◌∷◌, ◌++◌}
+use Rattle.std.specs.Prelude.{codes, decimal, option_map}
 use Rattle.rx_term.specs.Tree.{Tree, Trees}
 use Rattle.rx_term.specs.Store.{Store, cells}
 use Rattle.rx_term.specs.declared.Term.{Term}

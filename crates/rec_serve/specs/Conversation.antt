@@ -1,9 +1,10 @@
 -- A conversation: what is due for a stream of requests.
 --     requests bytes                 the requests of a stream of bytes, which are its lines
---     IsAnswer y counted n r answer  the answer to a request, of terms within n steps, with the steps
---                                    spent where they are counted
+--     IsAnswer y counted n r answer  the answer to a request, of terms within n steps, with the
+--                                    steps spent where they are counted
 --     IsDue y counted n rs text      what is due for requests
-use Rattle.std.specs.Prelude.{ℕ, ◌≡◌, ◌==◌, if◌then◌else◌, Bool, Option, Some, None, List, [], ◌∷◌, ◌++◌, codes, decimal, flat_map}
+use Rattle.std.specs.Prelude.{ℕ, ◌≡◌, ◌==◌, if◌then◌else◌, Bool, Option, Some, None, List, [], ◌∷◌}
+use Rattle.std.specs.Prelude.{◌++◌, codes, decimal, flat_map}
 use Rattle.rx_term.specs.Tree.{Tree, annotations}
 use Rattle.rx_text.specs.Verdict.{Verdict, TooLong, Outside, Spelt, IsVerdict}
 use Rattle.rec_syntax.specs.Syntax.{Spec}

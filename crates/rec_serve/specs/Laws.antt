@@ -1,5 +1,6 @@
 -- The laws of a conversation.
-use Rattle.std.specs.Prelude.{ℕ, ◌≡◌, ◌<◌, ◌^◌, ◌⊎◌, ◌++◌, Bool, List, Option, IsTrue, codes, flat_map, nat_lt}
+use Rattle.std.specs.Prelude.{ℕ, ◌≡◌, ◌<◌, ◌^◌, ◌⊎◌, ◌++◌, Bool, List, Option, IsTrue, codes}
+use Rattle.std.specs.Prelude.{flat_map, nat_lt}
 use Rattle.std.specs.List.{list_all}
 use Rattle.rec_syntax.specs.Syntax.{Spec}
 use Rattle.rx_run.specs.Bytes.{newlines}
@@ -41,8 +42,8 @@ NoWant = (y : Spec) (counted : Bool) (n : ℕ) (depth : Option ℕ) (r a : List 
     → IsAnswer y counted n r a → IsWant depth a → ⊥
 
 -- a stream may be divided behind a line end: the requests are those of each part; what is due for
--- requests one behind the other is what is due for each; and one text is due for any requests. So it
--- does not matter which process answers which
+-- requests one behind the other is what is due for each; and one text is due for any requests. So
+-- it does not matter which process answers which
 pub record SplitLaw : Type 0 where
   pub streams : (front rest : List ℕ) → requests (front ++ codes "\n" ++ rest)
       ≡ requests (front ++ codes "\n") ++ requests rest

@@ -2,18 +2,19 @@
 --     IsReply y counted n depth r reply      what is written for a request
 --     Converses y counted n depth bytes ..   all requests of a stream were answered
 --     BreaksOff y counted n depth bytes ..   a conversation broke off at a fault
---     EndsServing counted n depth ..         a run ended
+--     ConcludesServing counted n depth ..    a run ended
 --     BreaksServing counted n depth ..       a run stopped at a fault
-use Rattle.std.specs.Prelude.{ℕ, ◌≡◌, ◌⊎◌, Bool, Option, Some, None, IfSome, List, [], ◌∷◌, ◌++◌, codes, length}
+use Rattle.std.specs.Prelude.{ℕ, ◌≡◌, ◌⊎◌, Bool, Option, Some, None, IfSome, List, [], ◌∷◌, ◌++◌}
+use Rattle.std.specs.Prelude.{codes, length}
 use Rattle.std.specs.Io.KnownBytes.{Appends}
 use Rattle.rx_text.specs.Written.{AppendsFront, IsFront}
 use Rattle.rec_syntax.specs.Syntax.{Spec}
 use Rattle.rec_sorts.specs.Numbering.{Pairwise}
 use Rattle.rec_sorts.specs.SpecRules.{Verdict, Good, SpecVerdict}
 use Rattle.rec_run.specs.Output.{bare, due_of_spec}
-use Rattle.rx_run.specs.declared.ending.Finish.{Finish}
-use Rattle.rx_run.specs.declared.ending.Finish.TheVariants as finish
-use Rattle.rx_run.specs.declared.ending.Place.{Place}
+use Rattle.rx_run.specs.Run.{IsEnding}
+use Rattle.rx_run.specs.declared.refusal.Ending.{Ending}
+use Rattle.rx_run.specs.declared.refusal.Ending.TheVariants.{Done}
 use Rattle.rx_run.specs.declared.streams.ReadFault.{ReadFault}
 use Rattle.rx_run.specs.declared.streams.ReadFault.TheVariants as unread
 use Rattle.rec_serve.specs.Conversation.{requests, IsAnswer, joined}
@@ -46,8 +47,8 @@ answered_before Memory = 0
 answered_before (Read answered) = answered
 answered_before (Write answered) = answered
 
--- what was written behind the last reply that is whole, by the requests that are left: only a writer
--- that refuses leaves a front of a reply
+-- what was written behind the last reply that is whole, by the requests that are left: only a
+-- writer that refuses leaves a front of a reply
 abbrev pub IsPart : Spec → Bool → ℕ → Option ℕ → ServeFault → List (List ℕ) → List ℕ → Type 0
 IsPart y counted n depth (Write answered) (r ∷ rs) part = (part ≡ [])
     ⊎ ((reply : List ℕ) × IsReply y counted n depth r reply × IsFront part reply)
@@ -68,22 +69,24 @@ pub record BreaksOff (y : Spec) (counted : Bool) (n : ℕ) (depth : Option ℕ) 
 
 -- after the verdict on the specification: a good one's requests were answered, or the line of its
 -- refusal was written
-abbrev pub EndsAfter : Bool → ℕ → Option ℕ → Verdict → Option (List ℕ) → Finish → Option (List ℕ)
-    → Option (List ℕ) → Type 0
-EndsAfter counted n depth (Good y) known end old new = (end ≡ finish.Done)
+abbrev pub ConcludesAfter : Bool → ℕ → Option ℕ → Verdict → Option (List ℕ) → Ending
+    → Option (List ℕ) → Option (List ℕ) → Type 0
+ConcludesAfter counted n depth (Good y) known ending old new = (ending ≡ Done)
     × IfSome known (λ bytes. Converses y counted n depth bytes old new)
-EndsAfter counted n depth v known end old new = (end ≡ finish.Refused)
+ConcludesAfter counted n depth v known ending old new =
+    IsEnding (due_of_spec (bare counted) n v) ending
     × Appends old new (due_of_spec (bare counted) n v).text
 
--- a run that ended, by the text of the specification and the requests, where their readers tell them
-abbrev pub EndsServing : Bool → ℕ → Option ℕ → Option (List ℕ) → Option (List ℕ) → Finish
+-- a run that ended, by the text of the specification and the requests, where their readers tell
+-- them
+abbrev pub ConcludesServing : Bool → ℕ → Option ℕ → Option (List ℕ) → Option (List ℕ) → Ending
     → Option (List ℕ) → Option (List ℕ) → Type 0
-EndsServing counted n depth spec known end old new = IfSome spec (λ text. (v : Verdict)
-    × SpecVerdict text v × EndsAfter counted n depth v known end old new)
+ConcludesServing counted n depth spec known ending old new = IfSome spec (λ text. (v : Verdict)
+    × SpecVerdict text v × ConcludesAfter counted n depth v known ending old new)
 
 -- the same of a run that stopped at a fault
-abbrev pub BreaksAfter : Bool → ℕ → Option ℕ → Verdict → Option (List ℕ) → ServeFault → Option (List ℕ)
-    → Option (List ℕ) → Type 0
+abbrev pub BreaksAfter : Bool → ℕ → Option ℕ → Verdict → Option (List ℕ) → ServeFault
+    → Option (List ℕ) → Option (List ℕ) → Type 0
 BreaksAfter counted n depth (Good y) known fault old new =
     IfSome known (λ bytes. BreaksOff y counted n depth bytes fault old new)
 BreaksAfter counted n depth v known fault old new = (answered_before fault ≡ 0)
@@ -93,11 +96,6 @@ abbrev pub BreaksServing : Bool → ℕ → Option ℕ → Option (List ℕ) →
     → Option (List ℕ) → Option (List ℕ) → Type 0
 BreaksServing counted n depth spec known fault old new = IfSome spec (λ text. (v : Verdict)
     → SpecVerdict text v → BreaksAfter counted n depth v known fault old new)
-
--- the place of the specification's refusal, where it has one
-abbrev pub PlacedServing : Bool → ℕ → Option (List ℕ) → Option Place → Type 0
-PlacedServing counted n spec place = IfSome spec (λ text. (v : Verdict) × SpecVerdict text v
-    × (place ≡ (due_of_spec (bare counted) n v).place))
 
 -- the fault of a run where a specification was not read
 abbrev pub unread_fault : ReadFault → ServeFault

@@ -42,7 +42,8 @@ pub record StopsReply (y : Spec) (counted : Bool) (n : ℕ) (depth : Option ℕ)
 abbrev pub StopsStep : Spec → Bool → ℕ → Option ℕ → StreamFault → Option (List ℕ)
     → Option (List ℕ) → Option (List ℕ) → Type 0
 StopsStep y counted n depth Read old was now = Keeps was now
-StopsStep y counted n depth Write old was now = Keeps was now ⊎ StopsReply y counted n depth old was now
+StopsStep y counted n depth Write old was now =
+    Keeps was now ⊎ StopsReply y counted n depth old was now
 
 -- the conversation's fault where a stream's came after so many replies
 abbrev pub stopped_after : StreamFault → ℕ → ServeFault

@@ -42,7 +42,7 @@ use std::io::{Read, Write};
 /// Who hears of the requests that are refused.
 pub trait Listener {
     /// The request of this number, from 1, was refused.
-    fn refused(&mut self, checked: &Checked, number: u64, request: &[u8], refusal: Refusal);
+    fn hear_refusal(&mut self, checked: &Checked, number: u64, request: &[u8], refusal: Refusal);
 }
 
 /// Hears of none.
@@ -50,7 +50,13 @@ pub trait Listener {
 pub struct Deaf;
 
 impl Listener for Deaf {
-    fn refused(&mut self, _checked: &Checked, _number: u64, _request: &[u8], _refusal: Refusal) {}
+    fn hear_refusal(
+        &mut self,
+        _checked: &Checked,
+        _number: u64,
+        _request: &[u8],
+        _refusal: Refusal,
+    ) {}
 }
 
 impl StreamFault {
@@ -244,7 +250,7 @@ fn tell<L: Listener>(
     listener: &mut L,
 ) {
     if let Some(refusal) = refusal {
-        listener.refused(checked, number, &request.text, refusal);
+        listener.hear_refusal(checked, number, &request.text, refusal);
     }
 }
 

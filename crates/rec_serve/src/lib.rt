@@ -16,5 +16,5 @@ mod workspace;
 pub use answers::{Answered, answer, answer_in, answer_in_within, answer_within};
 pub use conversation::{Deaf, Listener, converse, converse_within};
 pub use ending::{Refusal, ServeFault, Want};
-pub use runs::{run_serve, run_serve_at, run_serve_within};
+pub use runs::run_serve;
 pub use settings::ServeSettings;

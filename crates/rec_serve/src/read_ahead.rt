@@ -54,7 +54,8 @@ pub(crate) struct ReadAhead {
 }
 
 impl ReadAhead {
-    ghost use Rattle.std.specs.Prelude.{◌↔◌, ◌++◌, [], List, ℕ, IfOk, IsTrue, Ok, drop, false, length, true};
+    ghost use Rattle.std.specs.Prelude.{◌↔◌, ◌++◌, [], List, ℕ, IfOk, IsTrue, Ok, drop, false};
+    ghost use Rattle.std.specs.Prelude.{length, true};
     ghost use Rattle.std.specs.Io.KnownBytes.{IsAtEnd, Keeps};
     ghost use Rattle.rec_serve.specs.Inner.Reading.{IsRead, Takes, left_of, unread};
 

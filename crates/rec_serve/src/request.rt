@@ -19,7 +19,8 @@ pub(crate) struct Request {
 }
 
 impl Request {
-    ghost use Rattle.std.specs.Prelude.{◌≡◌, ◌<◌, ◌++◌, [], List, ℕ, MatchOption, Some, false, length, true};
+    ghost use Rattle.std.specs.Prelude.{◌≡◌, ◌<◌, ◌++◌, [], List, ℕ, MatchOption, Some, false};
+    ghost use Rattle.std.specs.Prelude.{length, true};
     ghost use Rattle.rec_serve.specs.Inner.Reading.{IsRead};
 
     /// Nothing so far.

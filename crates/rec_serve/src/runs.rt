@@ -1,32 +1,30 @@
 //! Whole runs: a specification, and a conversation over it.
 
-ghost use Rattle.std.specs.Prelude.{◌≡◌, ℕ, IfErr, IfOk, IfSome, None, OnErr, OnOk};
+ghost use Rattle.std.specs.Prelude.{◌≡◌, ℕ, IfErr, IfOk, IfSome, OnErr, OnOk};
 ghost use Rattle.std.specs.Io.KnownBytes.{Appends, IsAtEnd};
 ghost use Rattle.rx_text.specs.Written.{AppendsFront};
 ghost use Rattle.rec_syntax.specs.Syntax.{Spec};
 ghost use Rattle.rec_sorts.specs.SpecRules.{Good, Verdict};
 ghost use Rattle.rec_run.specs.GivenTerms.{IsRefusal, OnGoodSpec, OnRefusedSpec};
 ghost use Rattle.rec_run.specs.Reading.{IsSpecReading};
-ghost use Rattle.rx_run.specs.Refusals.{place_of, refusal_due};
+ghost use Rattle.rx_run.specs.Refusals.{refusal_due};
 ghost use Rattle.rx_run.specs.Run.{IsReadOut};
 ghost use Rattle.rec_serve.specs.Replies.{
   BreaksAfter,
   BreaksOff,
   BreaksServing,
+  ConcludesAfter,
+  ConcludesServing,
   Converses,
-  EndsAfter,
-  EndsServing,
-  PlacedServing,
-  answered_before,
   unread_fault,
 };
 
-use crate::conversation::{Deaf, Listener, converse_within};
+use crate::conversation::{Listener, converse_within};
 use crate::ending::ServeFault;
 use crate::settings::ServeSettings;
-use rec_run::{RunOptions, engine_over, read_spec_text};
+use rec_run::{engine_over, read_spec_text};
 use rec_sorts::Checked;
-use rx_run::{Finish, Place, ReadFault, Reading, Refusal, flush, write_refusal};
+use rx_run::{Ending, ReadFault, Reading, Refusal, flush, write_refusal};
 use rx_shared::SharedBank;
 use rx_term::TermBank;
 use rx_text::RefusedWrite;
@@ -35,91 +33,30 @@ use std::io::{Read, Write};
 
 /// Reads a specification and, where it is good, answers the requests of a stream by one line for
 /// each, whatever came before; or writes the line of its refusal, and reads no request. Terms that
-/// the specification itself evaluates are not evaluated.
-pub fn run_serve<S: Read, R: Read, W: Write>(
-    alloc: Global,
-    spec: &mut S,
-    requests: &mut R,
-    out: &mut W,
-    options: RunOptions,
-) -> Result<Finish, ServeFault>
-    ensures output { IfOk result (λ finish. EndsServing options.count options.steps None
-        (S.remaining spec.old) (R.remaining requests.old) finish (W.contents out.old)
-        (W.contents out.new)) }
-    ensures fault { IfErr result (λ fault. BreaksServing options.count options.steps None
-        (S.remaining spec.old) (R.remaining requests.old) fault (W.contents out.old)
-        (W.contents out.new)) }
-    ensures spec_read { OnOk result (IsReadOut (S.remaining spec.old) (S.remaining spec.new)) }
-    ensures requests_read { OnOk result (OnGoodSpec (S.remaining spec.old)
-        (IsAtEnd (R.remaining requests.new))) }
-    ensures unread { OnRefusedSpec (S.remaining spec.old) (requests.new ≡ requests.old) }
-{
-    let mut place = None;
-    run_serve_at(alloc, spec, requests, out, options, &mut place, &mut Deaf)
-}
-
-/// The same, with the place of the specification's refusal, where it is refused; and who listens is
-/// told of each request that is.
-pub fn run_serve_at<S: Read, R: Read, W: Write, L: Listener>(
-    alloc: Global,
-    spec: &mut S,
-    requests: &mut R,
-    out: &mut W,
-    options: RunOptions,
-    place: &mut Option<Place>,
-    listener: &mut L,
-) -> Result<Finish, ServeFault>
-    ensures output { IfOk result (λ finish. EndsServing options.count options.steps None
-        (S.remaining spec.old) (R.remaining requests.old) finish (W.contents out.old)
-        (W.contents out.new)) }
-    ensures place { OnOk result (PlacedServing options.count options.steps (S.remaining spec.old)
-        place.new) }
-    ensures fault { IfErr result (λ fault. BreaksServing options.count options.steps None
-        (S.remaining spec.old) (R.remaining requests.old) fault (W.contents out.old)
-        (W.contents out.new)) }
-    ensures no_place { OnErr result (place.new ≡ None) }
-    ensures spec_read { OnOk result (IsReadOut (S.remaining spec.old) (S.remaining spec.new)) }
-    ensures requests_read { OnOk result (OnGoodSpec (S.remaining spec.old)
-        (IsAtEnd (R.remaining requests.new))) }
-    ensures unread { OnRefusedSpec (S.remaining spec.old) (requests.new ≡ requests.old) }
-{
-    let settings = ServeSettings {
-        options,
-        depth: None,
-    };
-    run_serve_within(alloc, spec, requests, out, settings, place, listener)
-}
-
-/// The same where it may be said how many calls may wait: a request that is too deep is answered by
-/// a line that says so.
-pub fn run_serve_within<S: Read, R: Read, W: Write, L: Listener>(
+/// the specification itself evaluates are not evaluated. Where it is said how many calls may wait,
+/// a request that is too deep is answered by a line that says so. Who listens is told of each
+/// request that is refused.
+pub fn run_serve<S: Read, R: Read, W: Write, L: Listener>(
     alloc: Global,
     spec: &mut S,
     requests: &mut R,
     out: &mut W,
     settings: ServeSettings,
-    place: &mut Option<Place>,
     listener: &mut L,
-) -> Result<Finish, ServeFault>
-    ensures output { IfOk result (λ finish. EndsServing settings.options.count settings.options.steps
-        settings.depth
-        (S.remaining spec.old) (R.remaining requests.old) finish (W.contents out.old)
-        (W.contents out.new)) }
-    ensures place { OnOk result (PlacedServing settings.options.count settings.options.steps
-        (S.remaining spec.old) place.new) }
-    ensures fault { IfErr result (λ fault. BreaksServing settings.options.count settings.options.steps
-        settings.depth
-        (S.remaining spec.old) (R.remaining requests.old) fault (W.contents out.old)
-        (W.contents out.new)) }
-    ensures no_place { OnErr result (place.new ≡ None) }
+) -> Result<Ending, ServeFault>
+    ensures ends { IfOk result (λ ending. ConcludesServing settings.options.count
+        settings.options.steps settings.depth (S.remaining spec.old) (R.remaining requests.old)
+        ending (W.contents out.old) (W.contents out.new)) }
+    ensures fault { IfErr result (λ fault. BreaksServing settings.options.count
+        settings.options.steps settings.depth (S.remaining spec.old) (R.remaining requests.old)
+        fault (W.contents out.old) (W.contents out.new)) }
     ensures spec_read { OnOk result (IsReadOut (S.remaining spec.old) (S.remaining spec.new)) }
     ensures requests_read { OnOk result (OnGoodSpec (S.remaining spec.old)
         (IsAtEnd (R.remaining requests.new))) }
     ensures unread { OnRefusedSpec (S.remaining spec.old) (requests.new ≡ requests.old) }
 {
-    *place = None;
     match read_spec_text(alloc, spec) {
-        Ok(reading) => serve_reading(alloc, reading, requests, out, settings, place, listener),
+        Ok(reading) => serve_reading(alloc, reading, requests, out, settings, listener),
         Err(fault) => Err(unread(fault)),
     }
 }
@@ -141,37 +78,28 @@ fn serve_reading<R: Read, W: Write, L: Listener>(
     requests: &mut R,
     out: &mut W,
     settings: ServeSettings,
-    place: &mut Option<Place>,
     listener: &mut L,
-) -> Result<Finish, ServeFault>
-    requires { place.old ≡ None }
-    ensures output { IfOk result (λ finish. (v : Verdict) → IsSpecReading reading v
-        → EndsAfter settings.options.count settings.options.steps
-        settings.depth v (R.remaining requests.old) finish
-        (W.contents out.old) (W.contents out.new)) }
-    ensures place { OnOk result (place.new ≡ place_of reading) }
+) -> Result<Ending, ServeFault>
+    ensures ends { IfOk result (λ ending. (v : Verdict) → IsSpecReading reading v
+        → ConcludesAfter settings.options.count settings.options.steps settings.depth v
+        (R.remaining requests.old) ending (W.contents out.old) (W.contents out.new)) }
     ensures fault { IfErr result (λ fault. (v : Verdict) → IsSpecReading reading v
         → BreaksAfter settings.options.count settings.options.steps
         settings.depth v (R.remaining requests.old) fault
         (W.contents out.old) (W.contents out.new)) }
-    ensures no_place { OnErr result (place.new ≡ None) }
     ensures requests_read { OnOk result ((y : Spec) → IsSpecReading reading (Good y)
         → IsAtEnd (R.remaining requests.new)) }
     ensures unread { (v : Verdict) → IsSpecReading reading v → IsRefusal v
         → requests.new ≡ requests.old }
 {
-    let refused_at = reading.place();
     match reading {
         Reading::Refused(refusal) => match refuse(refusal, out) {
-            Ok(()) => {
-                *place = refused_at;
-                Ok(Finish::Refused)
-            }
+            Ok(()) => Ok(Ending::Refused(refusal)),
             Err(RefusedWrite) => Err(ServeFault::Write { answered: 0 }),
         },
         Reading::Good(checked) => {
             serve(alloc, checked, requests, out, settings, listener)?;
-            Ok(Finish::Done)
+            Ok(Ending::Done)
         }
     }
 }

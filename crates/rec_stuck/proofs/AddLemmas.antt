@@ -1,6 +1,6 @@
 -- The lines of calls, one application after the other.
 use Rattle.std.proofs.Common.{◌≡◌, ℕ, ◌<◌, zero, suc, Bool, true, false, List, [], ◌∷◌, ◌++◌, IsSome, Some}
-use Rattle.std.proofs.Common.{append_assoc, arith, get_or, length, refl, slice_get, sym, ap, subst, ◌∙◌}
+use Rattle.std.proofs.Common.{append_assoc, arith, get_or, length, refl, slice_get, ap, subst, ◌∙◌}
 use Rattle.std.specs.Prelude.{codes, filter, flat_map}
 use Rattle.rx_term.specs.Store.{Store, tree_at}
 use Rattle.rx_term.specs.Tree.{Tree}

@@ -1,6 +1,6 @@
 -- Which applications are calls, by the numbers of their symbols.
-use Rattle.std.proofs.Common.{◌≡◌, ℕ, ◌+◌, ◌-◌, ◌<◌, ◌≤◌, ◌⊎◌, inl, inr, zero, suc, Bool, true, false, List, [], ◌∷◌, ◌++◌}
-use Rattle.std.proofs.Common.{Option, Some, None, refl, sym, ap, ap₂, subst, ◌∙◌, arith, get_or, length, length-append, map}
+use Rattle.std.proofs.Common.{◌≡◌, ℕ, ◌+◌, ◌-◌, ◌<◌, ◌≤◌, suc, Bool, true, false, List, [], ◌∷◌}
+use Rattle.std.proofs.Common.{Option, Some, None, refl, sym, ap, subst, ◌∙◌, arith, get_or, length, length-append, map}
 use Rattle.std.specs.Prelude.{bytes_eq, nat_eq, not, unwrap_or, ◌&&◌}
 use Rattle.std.specs.Bool.{beq}
 use Rattle.std.specs.Cmp.{booleans_Decides}
@@ -13,7 +13,7 @@ use Rattle.std.proofs.lemmas.Slice.Eq.{bytes_eq-Decides}
 use Rattle.rx_term.specs.Kinds.{HasAppl, HasKind}
 use Rattle.rx_term.specs.Name.{Signature, plain_name}
 use Rattle.rx_term.specs.Steps.{IsSound}
-use Rattle.rx_term.specs.Store.{Store, args_of, arity_at, part_at, signature_of, tree_at}
+use Rattle.rx_term.specs.Store.{Store, args_of, arity_at, signature_of, tree_at}
 use Rattle.rx_term.specs.Tree.{Tree, Trees, Int, Appl, Items, Hole, count_of, list_of, more, none}
 use Rattle.rx_term.specs.Walks.{held_tree}
 use Rattle.rx_term.specs.declared.Kind.{Kind}
@@ -21,15 +21,13 @@ use Rattle.rx_term.specs.declared.Kind.TheVariants as kind
 use Rattle.rx_term.specs.declared.Symbol as bank
 use Rattle.rx_term.specs.declared.Term.{Term}
 use Rattle.rec_syntax.specs.Syntax.{Declaration, Spec, nameless}
-use Rattle.rec_sorts.specs.Binding.{application}
 use Rattle.rec_sorts.specs.Linked.{AreLinked, NumberOf, signature}
 use Rattle.rec_sorts.specs.Lookup.{names, symbols}
 use Rattle.rec_sorts.specs.Numbering.{arity_of, name_of}
 use Rattle.rec_sorts.specs.declared.letters.Meaning.TheVariants.{Symbol}
 use Rattle.rec_match.proofs.AnswerLemmas.{arity-is}
-use Rattle.rec_stuck.specs.Inner.Calls.{IsCallOf, IsCalled}
+use Rattle.rec_stuck.specs.Inner.Calls.{IsCallOf}
 use Rattle.rec_stuck.specs.Stuck.{bare_of, is_call, is_of}
-use Rattle.rec_stuck.specs.declared.fitting.Call.{Call}
 
 -- ---- an operator's number
 

@@ -1,12 +1,12 @@
 -- What is told of values, term by term.
-use Rattle.std.proofs.Common.{refl, sym, ap, ap₂, subst, ◌∙◌, arith, append-nil, append_assoc, take_all}
+use Rattle.std.proofs.Common.{sym, ap, ap₂, ◌∙◌, append-nil, append_assoc, take_all}
 use Rattle.std.proofs.lemmas.List.{take_more}
 use Rattle.std.proofs.lemmas.List.Concat.{flat_map-append}
 use Rattle.std.proofs.lemmas.List.Folds.{flat_map-map}
 use Rattle.std.proofs.lemmas.Option.{slice_get-get_or}
 use Rattle.std.specs.Option.{option_map}
-use Rattle.std.specs.Prelude.{ℕ, ◌≡◌, ◌+◌, ◌<◌, ◌≤◌, List, [], ◌∷◌, ◌++◌, Option, Some, None, flat_map, get_or, length, map, take, unwrap_or}
-use Rattle.rx_term.specs.Tree.{Tree, annotated, annotations, list_of, none}
+use Rattle.std.specs.Prelude.{ℕ, ◌≡◌, ◌+◌, ◌<◌, ◌≤◌, List, [], ◌∷◌, ◌++◌, Some, flat_map, get_or, length, map, take, unwrap_or}
+use Rattle.rx_term.specs.Tree.{Tree, annotated, list_of, none}
 use Rattle.rx_term.specs.Store.{Store, tree_at}
 use Rattle.rx_term.specs.declared.Term.{Term as Reference}
 use Rattle.rec_syntax.specs.Syntax.{Apply, Spec, Term, nameless}
@@ -18,7 +18,7 @@ use Rattle.rec_engine.specs.Engine.{IsGiven, IsOutcome, eval_tree}
 use Rattle.rec_engine.specs.declared.engine.Outcome.{Outcome}
 use Rattle.rec_engine.specs.declared.engine.Outcome.TheVariants.{Value, Limit}
 use Rattle.rec_run.specs.GivenTerms.{item_at}
-use Rattle.rec_run.specs.Output.{Task, tasks}
+use Rattle.rec_run.specs.Output.{Task}
 use Rattle.rec_run.specs.Reading.{term_at}
 use Rattle.rec_run.proofs.EvaluatedLemmas.{bare_tree, eval-tree, given_item}
 use Rattle.rec_stuck.specs.Inner.Calls.{given_report, outcome_report}

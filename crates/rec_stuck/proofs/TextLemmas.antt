@@ -1,12 +1,12 @@
 -- The texts of terms without annotations, and their beginnings.
-use Rattle.std.proofs.Common.{◌≡◌, ℕ, ◌-◌, ◌≤◌, ◌<◌, ◌⊎◌, inl, inr, Bool, true, false, List, [], ◌∷◌, ◌++◌, Option, Some, None, IsSome}
-use Rattle.std.proofs.Common.{refl, sym, ap, ap₂, subst, ◌∙◌, arith, append-nil, length, length-append, take, drop, zero, suc}
-use Rattle.std.specs.Prelude.{codes, nat_le, unwrap_or, if◌then◌else◌}
+use Rattle.std.proofs.Common.{◌≡◌, ℕ, ◌-◌, ◌≤◌, ◌<◌, inl, inr, false, List, [], ◌∷◌, ◌++◌, Option, Some, None, IsSome}
+use Rattle.std.proofs.Common.{refl, sym, ap, subst, ◌∙◌, arith, append-nil, length, length-append, take, zero, suc}
+use Rattle.std.specs.Prelude.{codes, nat_le, unwrap_or}
 use Rattle.std.specs.Option.{option_and_then}
 use Rattle.std.proofs.lemmas.Bool.{lt-leb}
 use Rattle.std.proofs.lemmas.Bool.Decides.{leb_tells}
 use Rattle.rx_term.specs.Kinds.{HasAnns}
-use Rattle.rx_term.specs.Store.{Store, anns_of, list_unless_empty, part_at, tree_at}
+use Rattle.rx_term.specs.Store.{Store, anns_of, list_unless_empty, tree_at}
 use Rattle.rx_term.specs.Tree.{Tree, Trees, Int, Appl, Items, Hole, annotated, annotations, list_of, more, none}
 use Rattle.rx_term.specs.Walks.{held_tree}
 use Rattle.rx_term.specs.declared.Term.{Term}

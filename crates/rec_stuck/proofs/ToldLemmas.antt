@@ -1,14 +1,11 @@
 -- What is told of the values of a run's texts, from what the texts came to.
-use Rattle.std.proofs.Common.{refl, sym, ap, subst, ◌∙◌}
+use Rattle.std.proofs.Common.{refl, sym, ap, subst}
 use Rattle.std.specs.Prelude.{ℕ, ◌≡◌, ◌++◌, List, [], Option, Some, None, IfOk, IfSome, OnOk, Result, Ok, Err, option_map}
 use Rattle.rx_term.specs.Store.{Store}
 use Rattle.rx_term.specs.declared.Term.{Term as Reference}
 use Rattle.rec_syntax.specs.Syntax.{Sourced, Spec}
 use Rattle.rec_sorts.specs.SpecRules.{Verdict, Long, Grammar, Breaks, Good, SpecVerdict}
-use Rattle.rx_run.specs.declared.ending.Finish.{Finish}
 use Rattle.rx_run.specs.declared.ending.RunFault.{RunFault}
-use Rattle.rec_run.specs.Depth.{EndsBehind, unbounded}
-use Rattle.rec_run.specs.declared.depth.RunDepthFault.{RunDepthFault}
 use Rattle.rx_run.specs.declared.refusal.Reading.{Reading}
 use Rattle.rx_run.specs.declared.refusal.Reading.TheVariants as reading
 use Rattle.rx_run.specs.declared.refusal.Refusal.{Refusal}
@@ -95,10 +92,3 @@ pub tells-by : {A E : Type 0} (result : Result A E) (w : Store) (n : ℕ) (texts
 tells-by (Err e) w n texts r old new h k = tt
 tells-by (Ok a) w n None r old new h k = tt
 tells-by (Ok a) w n (Some t) r old new h k = (job_report w n r, h n, k)
-
--- what holds behind all that was written holds at the end
-pub on-behind : (P : Type 0) (finish : Finish) (mid new : Option (List ℕ)) (written : Result (Unit {0}) RunDepthFault)
-    (r : Result Finish RunDepthFault) → EndsBehind written finish mid new r → OnOk (unbounded written) P → OnOk (unbounded r) P
-on-behind P finish mid new written (Err f) h p = tt
-on-behind P finish mid new (Ok u) (Ok f) h p = p
-on-behind P finish mid new (Err e) (Ok f) (is, k) p = absurd (cc is)

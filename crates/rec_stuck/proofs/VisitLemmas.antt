@@ -1,10 +1,10 @@
 -- A walk over the applications in a value, one visit after the other.
-use Rattle.std.proofs.Common.{◌≡◌, ◌+◌, ◌<◌, ◌⊎◌, inl, inr, ℕ, Bool, true, false, List, [], ◌∷◌, ◌++◌, Option, Some}
-use Rattle.std.proofs.Common.{None, IsSome, refl, sym, ap, subst, ◌∙◌, append_assoc, append-nil, arith, map}
-use Rattle.std.specs.Prelude.{nat_eq, suc, unwrap_or}
+use Rattle.std.proofs.Common.{◌≡◌, ◌+◌, ◌<◌, inl, inr, ℕ, Bool, true, false, List, [], ◌∷◌, ◌++◌, Option, Some}
+use Rattle.std.proofs.Common.{None, IsSome, refl, sym, ap, subst, ◌∙◌, append_assoc, append-nil, arith}
+use Rattle.std.specs.Prelude.{nat_eq, unwrap_or}
 use Rattle.std.specs.List.{AllByRecursion, list_any}
 use Rattle.std.proofs.lemmas.Bool.Decides.{Decides-eqb, same_from_decides}
-use Rattle.indexmap.specs.IndexSet.{insert_key, insert_all}
+use Rattle.indexmap.specs.IndexSet.{insert_key}
 use Rattle.rx_term.specs.Tree.{Tree, list_of, none, tree_eq}
 use Rattle.rx_term.specs.Steps.{IsSound}
 use Rattle.rx_term.specs.Store.{Store, tree_at}
@@ -14,7 +14,7 @@ use Rattle.rx_term.proofs.TreeLemmas.{same_tree, tree_eq_same}
 use Rattle.rx_look.proofs.OrderLemmas.{any_map, map_insert}
 use Rattle.rec_stuck.specs.Stuck.{applications, different}
 use Rattle.rec_stuck.specs.Inner.Visits.{AreThere, CanVisit, Enters, Walked, left_by, left_by_all, place_of}
-use Rattle.rec_stuck.specs.Inner.Visits.{reference, trees_of, visits_by, visits_by_all, visits_of}
+use Rattle.rec_stuck.specs.Inner.Visits.{reference, trees_of, visits_by, visits_by_all}
 use Rattle.rec_stuck.specs.declared.applications.Visit.{Visit}
 use Rattle.rec_stuck.specs.declared.applications.Visit.TheVariants.{Enter, Leave}
 use Rattle.rec_stuck.proofs.ApplicationLemmas.{IsAmong, different-append, left-before}

@@ -5,7 +5,7 @@
 --     stuck_text source y v    the lines of the calls in a value
 --     stuck_report source y given n   those of the values of all terms
 --     IsToldFor n texts told   what is told of the values of a run's texts
-use Rattle.std.specs.Prelude.{ℕ, Bool, true, false, not, ◌&&◌, ◌≡◌, List, [], ◌∷◌, ◌++◌, Option, Some, IfSome}
+use Rattle.std.specs.Prelude.{ℕ, Bool, false, not, ◌&&◌, ◌≡◌, List, [], ◌∷◌, ◌++◌, Option, Some, IfSome}
 use Rattle.std.specs.Prelude.{codes, decimal, bytes_eq, filter, flat_map, is_some, length, map, nat_eq}
 use Rattle.std.specs.Bool.{beq}
 use Rattle.std.specs.List.{list_any}
@@ -120,4 +120,5 @@ IsToldFor n texts told = (v : Verdict) × SpecVerdict texts.spec v
 
 -- it comes behind what was told before
 abbrev pub Tells : ℕ → Option Texts → List ℕ → List ℕ → Type 0
-Tells n texts old new = IfSome texts (λ t. (told : List ℕ) × IsToldFor n t told × (new ≡ old ++ told))
+Tells n texts old new =
+    IfSome texts (λ t. (told : List ℕ) × IsToldFor n t told × (new ≡ old ++ told))

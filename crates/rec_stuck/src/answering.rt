@@ -1,12 +1,12 @@
 //! What is due for the texts that were read, where the values are looked at.
 
-ghost use Rattle.std.specs.Prelude.{◌≡◌, ◌++◌, ℕ, None, IfErr, IfOk, List, OnErr, OnOk};
+ghost use Rattle.std.specs.Prelude.{◌≡◌, ◌++◌, ℕ, IfErr, IfOk, List, OnOk};
 ghost use Rattle.std.specs.Option.{ForSome};
 ghost use Rattle.rx_text.specs.Output.{IsSameOutput, IsWritable, Writes, contents_of};
-ghost use Rattle.rx_run.specs.Refusals.{finish_of, place_of, refusal_due};
+ghost use Rattle.rx_run.specs.Refusals.{ending_of, refusal_due};
 ghost use Rattle.rx_run.specs.Run.{Stops};
 ghost use Rattle.rx_run.specs.Streams.{TellsWrite};
-ghost use Rattle.rec_run.specs.Depth.{EndsBehind, HasRoomWithin, IsBounded, unbounded};
+ghost use Rattle.rec_run.specs.Depth.{HasRoomWithin, IsBounded, unbounded};
 ghost use Rattle.rec_run.specs.EvaluatedLines.{ProtectsTerms};
 ghost use Rattle.rec_run.specs.GivenTerms.{HoldsTerms, IsReady, IsRefused, given_by, run_due};
 ghost use Rattle.rec_run.specs.Output.{lines, shown_of};
@@ -19,72 +19,44 @@ use rec_engine::Engine;
 use rec_run::{Job, Profiler, RunDepthFault, RunSettings, Watch, engine_over};
 use rec_sorts::Checked;
 use rec_trace::rule_spots;
-use rx_run::{Finish, Place, Reading, Refusal, RunFault, write_refusal_to};
+use rx_run::{Ending, Reading, Refusal, RunFault, write_refusal_to};
 use rx_term::{Term, TermBank};
 use rx_text::{Output, RefusedWrite};
 use std::alloc::{AllocError, Global};
 use std::io::Write;
 
-/// Writes what is due for the texts that were read, and flushes: how the run ends, and the place of
-/// the refusal that was written. What the values hold comes behind the report.
+/// Writes what is due for the texts that were read, and flushes: how the run ends. What the values
+/// hold comes behind the report.
 pub(crate) fn answer<B: TermBank + Drop, W: Write, V: Watch, P: Profiler>(
     alloc: Global,
     bank: B,
     reading: Reading<Job>,
     out: &mut Output<'_, W>,
     settings: RunSettings,
-    place: &mut Option<Place>,
     report: &mut StuckReport<V, P>,
-) -> Result<Finish, RunDepthFault>
+) -> Result<Ending, RunDepthFault>
     requires unrooted { (t : ℕ) → (B.store bank).roots t ≡ 0 }
     requires ready { IsReady (B.store bank) reading }
-    requires no_place { place.old ≡ None }
     requires open { IsWritable out.old }
-    ensures ends { IfOk (unbounded result) (λ finish. finish ≡ finish_of reading) }
+    ensures ends { IfOk (unbounded result) (λ ending. ending ≡ ending_of reading) }
     ensures ok { OnOk (unbounded result) (Writes W.contents out.old out.new
         (run_due (B.store bank) (shown_of settings) settings.options.steps reading).text) }
-    ensures place { OnOk (unbounded result) (place.new ≡ place_of reading) }
     ensures err { IfErr (unbounded result) (λ fault. Stops fault
         (run_due (B.store bank) (shown_of settings) settings.options.steps reading).text
         (contents_of W.contents out.old) (contents_of W.contents out.new)) }
     ensures cells { IsRefused reading → IfErr result HasRoomWithin }
     ensures bounded { IfErr result (IsBounded settings.depth) }
-    ensures no_place { OnErr (unbounded result) (place.new ≡ None) }
     ensures same_output { IsSameOutput out.old out.new }
     ensures report { OnOk (unbounded result) (report.new.lines.items ≡ report.old.lines.items
         ++ job_report (B.store bank) settings.options.steps reading) }
 {
-    let finish = reading.finish();
-    let refused_at = reading.place();
-    let written = write_due(alloc, bank, reading, out, settings, report);
-    end_run(written, finish, refused_at, out, place)
-}
-
-/// Flushes where all was written: how the run ends, and the place of the refusal that was written.
-fn end_run<W: Write>(
-    written: Result<(), RunDepthFault>,
-    finish: Finish,
-    refused_at: Option<Place>,
-    out: &mut Output<'_, W>,
-    place: &mut Option<Place>,
-) -> Result<Finish, RunDepthFault>
-    requires no_place { place.old ≡ None }
-    requires told { TellsWrite out.old (unbounded written) }
-    ensures ends { EndsBehind written finish (contents_of W.contents out.old)
-        (contents_of W.contents out.new) result }
-    ensures place { OnOk (unbounded result) (place.new ≡ refused_at) }
-    ensures no_place { OnErr (unbounded result) (place.new ≡ None) }
-    ensures same { IsSameOutput out.old out.new }
-{
-    match written {
-        Err(fault) => Err(fault),
+    let ending = reading.ending();
+    match write_due(alloc, bank, reading, out, settings, report) {
         Ok(()) => match out.flush() {
-            Err(_) => Err(RunDepthFault::Run(RunFault::Write)),
-            Ok(()) => {
-                *place = refused_at;
-                Ok(finish)
-            }
+            Ok(()) => Ok(ending),
+            Err(RefusedWrite) => Err(RunDepthFault::Run(RunFault::Write)),
         },
+        Err(fault) => Err(fault),
     }
 }
 

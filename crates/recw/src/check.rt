@@ -2,8 +2,9 @@
 
 use crate::evidence::Evidence;
 use crate::input::open;
+use crate::report::Outcome;
 use rec_check::{Judgement, run_check};
-use rec_run::{Finish, RunFault};
+use rec_run::RunFault;
 use recw_words::{STANDARD_INPUT, TextName};
 use std::alloc::Global;
 use std::io::{Read, Write};
@@ -34,20 +35,20 @@ pub fn check<H: Files, R: Read, W: Write>(
     input: &mut R,
     out: &mut W,
     evidence: &mut Evidence<'_>,
-) -> Result<Finish, RunFault> {
-    let mut finish = Finish::Done;
+) -> Result<Outcome, RunFault> {
+    let mut outcome = Outcome::Done;
     for index in 0..evidence.invocation.given.len() {
         let path = match evidence.invocation.given.as_slice().get(index) {
             Some(path) => *path,
-            None => return Ok(finish),
+            None => return Ok(outcome),
         };
         match check_file(rt, path, input, out, evidence)? {
             Judgement::Good => {}
             Judgement::Warned if !is_strict => {}
-            _ => finish = Finish::Refused,
+            _ => outcome = Outcome::Faulty,
         }
     }
-    Ok(finish)
+    Ok(outcome)
 }
 
 /// Checks the specification in a file or on the standard input.

@@ -3,22 +3,15 @@
 use crate::expected::expected_words;
 use crate::item::{element_of_terms, item_of_args};
 use crate::recorded::{Output, Recorded};
-use rec_run::{Finish, Place, RunDepthFault, RunFault, Source};
+use crate::report::Outcome;
+use rec_run::{Ending, Reason, Refusal, RunDepthFault, RunFault, Source};
 use recw_words::{
-    Given, Invocation, Item, Refusal, Request, STANDARD_INPUT, TextName, Texts, Which,
+    Given, Invocation, Item, NamedRefusal, Request, STANDARD_INPUT, TextName, Texts, Which,
     explain_given, explain_place, explain_text, explain_trouble,
 };
 use std::alloc::Global;
 use std::io;
 use std::io::{Error, Read, Write};
-
-/// What a refusal's line is made of.
-struct RefusalLine<'a> {
-    /// The text that is refused.
-    source: Source,
-    /// The refusal's name.
-    rule: &'a str,
-}
 
 /// A stream that failed, and why.
 #[derive(Clone, Copy)]
@@ -36,15 +29,13 @@ pub struct Evidence<'a> {
     pub alloc: Global,
     /// What is asked for.
     pub invocation: Invocation<'a>,
-    /// Where the text was refused.
-    pub place: Option<Place>,
     /// Behind how many words the one stands that was refused, where it is a given term.
     word: Option<usize>,
     /// The text of the specification, or of the term.
     pub first: Vec<u8>,
     /// The text of the given terms.
     pub second: Vec<u8>,
-    /// What was written.
+    /// What was kept of the output.
     pub output: Output,
     /// The lines that tell of the calls in values.
     pub calls: Vec<u8>,
@@ -58,11 +49,10 @@ impl<'a> Evidence<'a> {
         Evidence {
             alloc,
             invocation,
-            place: None,
             word: None,
             first: Vec::new(alloc),
             second: Vec::new(alloc),
-            output: Output::new(alloc),
+            output: Output::new(),
             calls: Vec::new(alloc),
             trouble: None,
         }
@@ -127,7 +117,7 @@ impl<'a> Evidence<'a> {
         text
     }
 
-    /// What was written.
+    /// What was kept of the output.
     pub fn note_output(&mut self, output: Output) {
         if let Some(error) = output.trouble
             && self.trouble.is_none()
@@ -138,29 +128,36 @@ impl<'a> Evidence<'a> {
         self.output = output;
     }
 
-    /// Finds the word that was refused, of those of which the given terms are made.
-    pub fn note_word(&mut self, given: &Given) {
-        if let Some(place) = self.place
-            && matches!(place.text, Source::Terms)
-        {
-            let (word, at) = given.locate(place.at as usize);
-            self.word = Some(word);
-            self.place = Some(Place {
-                text: Source::Terms,
-                rule: place.rule,
-                at: u32::try_from(at).unwrap_or(place.at),
-            });
+    /// How a run ended whose given terms are made of words: a refusal of them is told of the word
+    /// in which it stands.
+    pub fn note_word(&mut self, ending: Ending, given: &Given) -> Ending {
+        match ending {
+            Ending::Refused(
+                Refusal {
+                    text: Source::Terms,
+                    reason: Reason::Outside { at },
+                },
+            ) => {
+                let (word, within) = given.locate(at as usize);
+                self.word = Some(word);
+                let at = u32::try_from(within).unwrap_or(at);
+                Ending::Refused(Refusal {
+                    text: Source::Terms,
+                    reason: Reason::Outside { at },
+                })
+            }
+            _ => ending,
         }
     }
 
     /// Explains how a run ended, where there is more to say than the line that was written.
     pub fn explain<W: Write>(
         &self,
-        end: Result<Finish, RunDepthFault>,
+        end: Result<Outcome, RunDepthFault>,
         out: &mut W,
     ) -> io::Result<()> {
         match end {
-            Ok(Finish::Refused) => self.explain_refusal(out),
+            Ok(Outcome::Refused(refusal)) => self.explain_refusal(refusal, out),
             Err(RunDepthFault::Run(RunFault::Read | RunFault::Write)) => self.explain_trouble(out),
             Err(RunDepthFault::Run(RunFault::Room { .. })) => {
                 explain_room(self.invocation.request, out)
@@ -171,40 +168,37 @@ impl<'a> Evidence<'a> {
     }
 
     /// Says what the refusal means, and where it stands.
-    fn explain_refusal<W: Write>(&self, out: &mut W) -> io::Result<()> {
-        let Some(RefusalLine { source, rule }) = read_line(self.output.text.as_slice()) else {
-            return Ok(());
-        };
-        let refusal = Refusal {
-            text: self.name_of(source),
-            rule,
-        };
-        match (self.place, source) {
+    fn explain_refusal<W: Write>(&self, refusal: Refusal, out: &mut W) -> io::Result<()> {
+        let source = refusal.text;
+        let text = self.name_of(source);
+        let reason = refusal.reason;
+        let named = NamedRefusal { text, reason };
+        match (refusal.place(), source) {
             (Some(place), _) => {
-                self.explain_at(refusal, self.text_of(source), place.at as usize, out)
+                self.explain_at(named, self.text_of(source), place.at as usize, out)
             }
-            (None, Source::Terms) => self.explain_terms(refusal, out),
-            (None, _) => explain_text(refusal, self.item_of(source), out),
+            (None, Source::Terms) => self.explain_terms(named, out),
+            (None, _) => explain_text(named, self.item_of(source), out),
         }
     }
 
     /// Says what a refusal at a place of a text means, and what may stand there.
     fn explain_at<W: Write>(
         &self,
-        refusal: Refusal<'_>,
+        refusal: NamedRefusal<'_>,
         text: &[u8],
         at: usize,
         out: &mut W,
     ) -> io::Result<()> {
         let alloc = self.alloc;
-        match expected_words(alloc, refusal.rule, text, at) {
+        match expected_words(alloc, refusal.reason, text, at) {
             Some(expected) => explain_place(alloc, refusal, text, at, expected.as_slice(), out),
             None => explain_place(alloc, refusal, text, at, &[], out),
         }
     }
 
     /// Says which given term is refused, and which part of it.
-    fn explain_terms<W: Write>(&self, refusal: Refusal<'_>, out: &mut W) -> io::Result<()> {
+    fn explain_terms<W: Write>(&self, refusal: NamedRefusal<'_>, out: &mut W) -> io::Result<()> {
         let spec = self.first.as_slice();
         let terms = self.second.as_slice();
         let Some(element) = element_of_terms(self.alloc, spec, terms) else {
@@ -214,10 +208,10 @@ impl<'a> Evidence<'a> {
             Some(word) => {
                 let terms = word.as_bytes();
                 let text = TextName::Word(element);
-                let rule = refusal.rule;
+                let reason = refusal.reason;
                 let which = Which::Whole;
                 let texts = Texts { spec, terms, which };
-                explain_given(self.alloc, Refusal { text, rule }, texts, out)
+                explain_given(self.alloc, NamedRefusal { text, reason }, texts, out)
             }
             None => {
                 let which = Which::Element(element);
@@ -271,21 +265,6 @@ impl<'a> Evidence<'a> {
             None => &[],
         }
     }
-}
-
-/// The refusal that a line like `!spec S5` tells.
-fn read_line(line: &[u8]) -> Option<RefusalLine<'_>> {
-    let line = str::from_utf8(line).ok()?;
-    let (text, rule) = line.strip_prefix('!')?.trim_end().split_once(' ')?;
-    let source = match text {
-        "spec" => Source::Spec,
-        "terms" => Source::Terms,
-        "term" => Source::Term,
-        "pattern" => Source::Pattern,
-        "args" => Source::Args,
-        _ => return None,
-    };
-    Some(RefusalLine { source, rule })
 }
 
 /// Names the option that raises the limit on cells.

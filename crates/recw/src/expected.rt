@@ -1,5 +1,6 @@
 //! What may stand at the place of a refusal, in words.
 
+use rec_run::Reason;
 use rec_syntax::{Part, TokenKind as SpecificationToken};
 use rx_text::TokenKind as TermToken;
 use std::alloc::Global;
@@ -8,20 +9,20 @@ use std::alloc::Global;
 /// there is no memory to tell. A text that was not kept ends before its place.
 pub fn expected_words(
     alloc: Global,
-    rule: &str,
+    reason: Reason,
     text: &[u8],
     at: usize,
 ) -> Option<Vec<&'static str>> {
     if at > text.len() {
         return None;
     }
-    match rule {
-        "G" => {
+    match reason {
+        Reason::Grammar { at: _ } => {
             let kinds = rec_syntax::expected_at_fault(alloc, text).ok()?;
             let words = kinds.iter().map(|kind| specification_token(*kind));
             words.collect(alloc).ok()
         }
-        "A" => {
+        Reason::Outside { at: _ } => {
             let kinds = rx_text::expected_at_fault(alloc, text).ok()?;
             let words = kinds.iter().map(|kind| term_token(*kind));
             words.collect(alloc).ok()

@@ -1,6 +1,6 @@
 //! Given terms that stand among the words.
 
-use rec_run::{RunFault, run_aterm_at};
+use rec_run::{RunFault, print_term};
 use recw_words::Given;
 use std::alloc::Global;
 use std::io;
@@ -18,7 +18,6 @@ pub fn given_by(alloc: Global, words: &[&str]) -> Result<Given, RunFault> {
 
 /// Where a word leaves the grammar of terms, if it does.
 fn fault_of(alloc: Global, word: &str) -> Result<Option<usize>, RunFault> {
-    let mut place = None;
-    run_aterm_at(alloc, &mut word.as_bytes(), &mut io::sink(), &mut place)?;
-    Ok(place.map(|place| place.at as usize))
+    let ending = print_term(alloc, &mut word.as_bytes(), &mut io::sink())?;
+    Ok(ending.place().map(|place| place.at as usize))
 }

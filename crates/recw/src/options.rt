@@ -35,7 +35,7 @@ pub fn run_settings(options: EvalOptions) -> RunSettings {
 }
 
 /// Which of the rules that fire are shown.
-fn picked(shown: Shown<'_>) -> Picked<'_> {
+fn picks(shown: Shown<'_>) -> Picked<'_> {
     Picked {
         place: shown.rule.map(rule_place),
         symbol: shown.symbol.map(str::as_bytes),
@@ -58,7 +58,7 @@ pub fn trace_options(options: EvalOptions, shown: Shown<'_>) -> TraceOptions<'_>
         run: run_options(options),
         whole: shown.whole,
         width: shown.width,
-        picked: picked(shown),
+        picked: picks(shown),
     }
 }
 

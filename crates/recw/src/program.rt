@@ -4,19 +4,20 @@ use crate::check::check;
 use crate::evidence::Evidence;
 use crate::given::given_by;
 use crate::input::{open, open_file, open_given};
+use crate::look;
 use crate::profile::Profile;
 use crate::recorded::Watched;
+use crate::report::{Outcome, tell_end};
 use crate::serve::serve;
 use crate::work::{Calls, Firings, Values, Work};
-use crate::{look, report};
 use rec_run::{
-    Finish, Observer, Profiler, RunDepthFault, RunFault, Source, Watch, run_aterm_at, run_make_at,
-    run_match_at, run_share_at,
+    Ending, Observer, Profiler, RunDepthFault, RunFault, Source, Watch, make_term, match_term,
+    print_term, share_term,
 };
 use rec_stuck::StuckReport;
 use recw_words::status::{eval_status, match_status};
 use recw_words::{Audience, EvalOptions, Request, STANDARD_INPUT};
-use rx_look::{run_aterm_indented_at, run_share_dot_at};
+use rx_look::{run_aterm_indented, run_share_dot};
 use std::io::{Read, Write};
 use std::rt::Files;
 
@@ -31,12 +32,12 @@ pub fn obey<H: Files, R: Read, W: Write, E: Write + Audience, V: Watch + Drop>(
     watch: V,
 ) -> u8 {
     evidence.invocation.explain |= err.is_curious();
-    let mut out = Watched::new(evidence.alloc, out, evidence.invocation.has_outcome);
+    let mut out = Watched::new(out, evidence.invocation.has_outcome);
     let end = match evidence.invocation.request {
         Request::Eval { options, .. } => {
             let profiler = Profile::new(evidence.alloc, options.profile, err);
             let observer = Observer { watch, profiler };
-            evaluate_observed(rt, options, observer, input, &mut out, evidence)
+            evaluate_observed(rt, options, observer, input, &mut out, evidence).map(Outcome::from)
         }
         _ => perform(rt, input, &mut out, err, evidence),
     };
@@ -46,15 +47,15 @@ pub fn obey<H: Files, R: Read, W: Write, E: Write + Audience, V: Watch + Drop>(
 
 /// Tells of a run's end, and gives its status.
 fn conclude<E: Write>(
-    end: Result<Finish, RunDepthFault>,
+    end: Result<Outcome, RunDepthFault>,
     evidence: &Evidence<'_>,
     err: &mut E,
 ) -> u8 {
-    let status = report::ended(end, evidence.place, err);
+    let status = tell_end(end, err);
     if evidence.invocation.explain {
         let _ = evidence.explain(end, err);
     }
-    if let Ok(Finish::Done) = end {
+    if let Ok(Outcome::Done) = end {
         tell_calls(evidence, err);
     }
     if evidence.invocation.has_outcome {
@@ -78,7 +79,7 @@ fn calls_status(status: u8, evidence: &Evidence<'_>) -> u8 {
 /// The status where it is to tell what came of the run.
 fn outcome_status(status: u8, evidence: &Evidence<'_>) -> u8 {
     match evidence.invocation.request {
-        Request::Match { .. } => { match_status(status, evidence.output.text.starts_with(b"yes")) }
+        Request::Match { .. } => match_status(status, evidence.output.first == Some(b'y')),
         _ => {
             let status = eval_status(status, evidence.output.has_mark);
             calls_status(status, evidence)
@@ -93,34 +94,36 @@ fn perform<H: Files, R: Read, W: Write, E: Write>(
     out: &mut W,
     err: &mut E,
     evidence: &mut Evidence<'_>,
-) -> Result<Finish, RunDepthFault> {
+) -> Result<Outcome, RunDepthFault> {
     match evidence.invocation.request {
         Request::Trace { options, shown, .. } => {
-            evaluate(rt, &mut Firings { options, shown }, input, out, evidence)
+            let mut firings = Firings { options, shown };
+            evaluate(rt, &mut firings, input, out, evidence).map(Outcome::from)
         }
-        _ => run_request(rt, input, out, err, evidence).map_err(RunDepthFault::Run),
+        Request::Check { is_strict } => {
+            check(rt, is_strict, input, out, evidence).map_err(RunDepthFault::Run)
+        }
+        _ => match run_request(rt, input, out, err, evidence) {
+            Ok(ending) => Ok(Outcome::from(ending)),
+            Err(fault) => Err(RunDepthFault::Run(fault)),
+        },
     }
 }
 
-/// Does what is asked for but an evaluation, on the files that it names. What is told while it goes
-/// on is written to `err`.
+/// Does what is asked for but an evaluation or a check, on the files that it names. What is told
+/// while it goes on is written to `err`.
 fn run_request<H: Files, R: Read, W: Write, E: Write>(
     rt: &H,
     input: &mut R,
     out: &mut W,
     err: &mut E,
     evidence: &mut Evidence<'_>,
-) -> Result<Finish, RunFault> {
+) -> Result<Ending, RunFault> {
     match evidence.invocation.request {
-        Request::Make { pattern, args } => run_make_at(
-            evidence.alloc,
-            pattern.as_bytes(),
-            args.as_bytes(),
-            out,
-            &mut evidence.place,
-        ),
+        Request::Make { pattern, args } => {
+            make_term(evidence.alloc, pattern.as_bytes(), args.as_bytes(), out)
+        }
         Request::Serve { options, .. } => serve(rt, options, input, out, err, evidence),
-        Request::Check { is_strict } => check(rt, is_strict, input, out, evidence),
         _ => run_on_file(rt, input, out, evidence),
     }
 }
@@ -131,7 +134,7 @@ fn run_on_file<H: Files, R: Read, W: Write>(
     input: &mut R,
     out: &mut W,
     evidence: &mut Evidence<'_>,
-) -> Result<Finish, RunFault> {
+) -> Result<Ending, RunFault> {
     let path = evidence.invocation.request.path();
     let name = evidence.name_of(Source::Term);
     let file = evidence.note_open(open(rt, path, input), name)?;
@@ -145,25 +148,21 @@ fn run_on_file<H: Files, R: Read, W: Write>(
 fn run_on_text<R: Read, W: Write>(
     text: &mut R,
     out: &mut W,
-    evidence: &mut Evidence<'_>,
-) -> Result<Finish, RunFault> {
+    evidence: &Evidence<'_>,
+) -> Result<Ending, RunFault> {
     let alloc = evidence.alloc;
     match evidence.invocation.request {
-        Request::Share { nodes: None, .. } => {
-            run_share_at(alloc, text, out, &mut evidence.place)
-        }
+        Request::Share { nodes: None, .. } => share_term(alloc, text, out),
         Request::Share {
             nodes: Some(nodes),
             ..
-        } => look::ended(run_share_dot_at(alloc, text, nodes, out, &mut evidence.place)),
-        Request::Match { pattern, .. } => {
-            run_match_at(alloc, pattern.as_bytes(), text, out, &mut evidence.place)
-        }
+        } => look::end_of(run_share_dot(alloc, text, nodes, out)),
+        Request::Match { pattern, .. } => match_term(alloc, pattern.as_bytes(), text, out),
         Request::Aterm {
             indent: Some(indent),
             ..
-        } => look::ended(run_aterm_indented_at(alloc, text, indent, out, &mut evidence.place)),
-        _ => run_aterm_at(alloc, text, out, &mut evidence.place),
+        } => look::end_of(run_aterm_indented(alloc, text, indent, out)),
+        _ => print_term(alloc, text, out),
     }
 }
 
@@ -176,7 +175,7 @@ fn evaluate_observed<H: Files, R: Read, W: Write, V: Watch + Drop, P: Profiler +
     input: &mut R,
     out: &mut W,
     evidence: &mut Evidence<'_>,
-) -> Result<Finish, RunDepthFault> {
+) -> Result<Ending, RunDepthFault> {
     if options.stuck {
         let report = StuckReport::new(evidence.alloc, observer);
         let mut calls = Calls { options, report };
@@ -196,7 +195,7 @@ fn evaluate<H: Files, R: Read, W: Write, K: Work>(
     input: &mut R,
     out: &mut W,
     evidence: &mut Evidence<'_>,
-) -> Result<Finish, RunDepthFault> {
+) -> Result<Ending, RunDepthFault> {
     if evidence.invocation.request.terms_path() == Some(STANDARD_INPUT) {
         evaluate_on_input(rt, work, input, out, evidence)
     } else {
@@ -211,7 +210,7 @@ fn evaluate_on_input<H: Files, R: Read, W: Write, K: Work>(
     input: &mut R,
     out: &mut W,
     evidence: &mut Evidence<'_>,
-) -> Result<Finish, RunDepthFault> {
+) -> Result<Ending, RunDepthFault> {
     let path = evidence.invocation.request.path();
     let name = evidence.name_of(Source::Spec);
     let file = evidence.note_open(open_file(rt, path), name)?;
@@ -229,7 +228,7 @@ fn evaluate_on_files<H: Files, R: Read, W: Write, K: Work>(
     input: &mut R,
     out: &mut W,
     evidence: &mut Evidence<'_>,
-) -> Result<Finish, RunDepthFault> {
+) -> Result<Ending, RunDepthFault> {
     let path = evidence.invocation.request.path();
     let name = evidence.name_of(Source::Spec);
     let file = evidence.note_open(open(rt, path, input), name)?;
@@ -246,7 +245,7 @@ fn evaluate_text<H: Files, R: Read, W: Write, K: Work>(
     spec: &mut R,
     out: &mut W,
     evidence: &mut Evidence<'_>,
-) -> Result<Finish, RunDepthFault> {
+) -> Result<Ending, RunDepthFault> {
     if !evidence.invocation.given.is_empty() {
         return evaluate_words(work, spec, out, evidence);
     }
@@ -262,11 +261,10 @@ fn evaluate_words<R: Read, W: Write, K: Work>(
     spec: &mut R,
     out: &mut W,
     evidence: &mut Evidence<'_>,
-) -> Result<Finish, RunDepthFault> {
+) -> Result<Ending, RunDepthFault> {
     let given = given_by(evidence.alloc, evidence.invocation.given.as_slice())?;
-    let end = evaluate_with(work, spec, Some(given.text()), out, evidence);
-    evidence.note_word(&given);
-    end
+    let ending = evaluate_with(work, spec, Some(given.text()), out, evidence)?;
+    Ok(evidence.note_word(ending, &given))
 }
 
 /// Evaluates a specification and given terms, whose text is kept for an explanation.
@@ -276,7 +274,7 @@ fn evaluate_with<R: Read, T: Read + Drop, W: Write, K: Work>(
     terms: Option<T>,
     out: &mut W,
     evidence: &mut Evidence<'_>,
-) -> Result<Finish, RunDepthFault> {
+) -> Result<Ending, RunDepthFault> {
     let mut terms = match terms {
         Some(file) => Some(evidence.record(file)),
         None => None,

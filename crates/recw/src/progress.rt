@@ -78,9 +78,9 @@ impl<'a, C: Clock> Progress<'a, C> {
 
     /// Writes the line over the one that is shown, and wipes what is left of that.
     fn write_line<E: Write>(&self, left: u64, cells: u32, err: &mut E) -> io::Result<()> {
-        let spent = grouped(self.alloc, self.steps.saturating_sub(left))?;
-        let steps = grouped(self.alloc, self.steps)?;
-        let cells = grouped(self.alloc, u64::from(cells))?;
+        let spent = group_digits(self.alloc, self.steps.saturating_sub(left))?;
+        let steps = group_digits(self.alloc, self.steps)?;
+        let cells = group_digits(self.alloc, u64::from(cells))?;
         let term = self.term;
         let line = format!(in self.alloc;
             "\rrecw: term {term}: {spent} of {steps} steps, {cells} cells\u{1b}[K"
@@ -99,7 +99,7 @@ impl<'a, C: Clock> Progress<'a, C> {
 }
 
 /// A number with a comma before each three digits.
-fn grouped(alloc: Global, number: u64) -> Result<String, AllocError> {
+fn group_digits(alloc: Global, number: u64) -> Result<String, AllocError> {
     let digits = format!(in alloc; "{number}")?;
     let mut text = String::new(alloc);
     for (index, digit) in digits.chars().enumerate() {

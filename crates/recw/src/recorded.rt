@@ -4,9 +4,6 @@ use std::alloc::Global;
 use std::io;
 use std::io::{Error, Read, Write};
 
-/// How many bytes of an output are kept, which is more than a refusal's line has.
-const KEPT_OUTPUT: usize = 32;
-
 /// A reader whose text is kept. Where there is no memory for it, nothing is.
 #[derive(Drop)]
 pub struct Recorded<R> {
@@ -63,10 +60,10 @@ impl<R: Read> Read for Recorded<R> {
 }
 
 /// What is kept of an output.
-#[derive(Drop)]
+#[derive(Clone, Copy, Drop)]
 pub struct Output {
-    /// The first bytes that were written.
-    pub text: Vec<u8>,
+    /// The first byte that was written.
+    pub first: Option<u8>,
     /// Whether a line began with a `!`, where that is watched.
     pub has_mark: bool,
     /// Why the last write that failed did.
@@ -75,16 +72,16 @@ pub struct Output {
 
 impl Output {
     /// Nothing was written.
-    pub fn new(alloc: Global) -> Output {
+    pub fn new() -> Output {
         Output {
-            text: Vec::new(alloc),
+            first: None,
             has_mark: false,
             trouble: None,
         }
     }
 }
 
-/// A writer of which the first bytes are kept.
+/// A writer of which it is kept how its lines begin.
 #[derive(Drop)]
 pub struct Watched<'a, W> {
     /// The writer that is asked.
@@ -100,12 +97,12 @@ pub struct Watched<'a, W> {
 impl<'a, W: Write> Watched<'a, W> {
     /// A writer to which nothing was written; the beginnings of lines are watched where
     /// `is_watched`.
-    pub fn new(alloc: Global, writer: &'a mut W, is_watched: bool) -> Watched<'a, W> {
+    pub fn new(writer: &'a mut W, is_watched: bool) -> Watched<'a, W> {
         Watched {
             writer,
             is_watched,
             is_begun: false,
-            kept: Output::new(alloc),
+            kept: Output::new(),
         }
     }
 
@@ -114,19 +111,11 @@ impl<'a, W: Write> Watched<'a, W> {
         self.kept
     }
 
-    /// Keeps the first bytes.
-    fn keep(&mut self, bytes: &[u8]) {
-        if self.kept.text.len() < KEPT_OUTPUT {
-            let kept = bytes.get(..KEPT_OUTPUT).unwrap_or(bytes);
-            let _ = self.kept.text.extend_from_slice(kept);
-        }
-        if self.is_watched {
-            self.watch(bytes);
-        }
-    }
-
-    /// Notes a line that begins with a `!`.
+    /// Notes the first byte, and a line that begins with a `!`.
     fn watch(&mut self, bytes: &[u8]) {
+        if self.kept.first.is_none() {
+            self.kept.first = bytes.first().copied();
+        }
         for byte in bytes {
             if !self.is_begun && *byte == b'!' {
                 self.kept.has_mark = true;
@@ -140,7 +129,9 @@ impl<W: Write> Write for Watched<'_, W> {
     fn write(&mut self, buf: &[u8]) -> io::Result<usize> {
         match self.writer.write(buf) {
             Ok(count) => {
-                self.keep(&buf[..count]);
+                if self.is_watched {
+                    self.watch(&buf[..count]);
+                }
                 Ok(count)
             }
             Err(error) => {

@@ -5,10 +5,10 @@ use crate::expected::expected_words;
 use crate::input::{open, open_file};
 use crate::options::serve_settings;
 use crate::recorded::Recorded;
-use rec_run::{Finish, RunFault, Source};
-use rec_serve::{Listener, Refusal as Refused, ServeFault, run_serve_within};
+use rec_run::{Ending, Reason, RunFault, Source};
+use rec_serve::{Listener, Refusal, ServeFault, run_serve};
 use rec_sorts::Checked;
-use recw_words::{EvalOptions, Refusal, TextName, Texts, Which, explain_given, explain_place};
+use recw_words::{EvalOptions, NamedRefusal, TextName, Texts, Which, explain_given, explain_place};
 use rx_text::LONGEST;
 use std::alloc::Global;
 use std::io;
@@ -29,7 +29,7 @@ struct Explainer<'a, E> {
 }
 
 impl<E: Write> Listener for Explainer<'_, E> {
-    fn refused(&mut self, checked: &Checked, number: u64, request: &[u8], refusal: Refused) {
+    fn hear_refusal(&mut self, checked: &Checked, number: u64, request: &[u8], refusal: Refusal) {
         if self.is_asked {
             // A line that cannot be written is left out.
             let _ = self.explain(checked, number, request, refusal);
@@ -44,47 +44,45 @@ impl<E: Write> Explainer<'_, E> {
         checked: &Checked,
         number: u64,
         request: &[u8],
-        refusal: Refused,
+        refusal: Refusal,
     ) -> io::Result<()> {
         let path = self.path;
         let text = TextName::Line { path, number };
         match refusal {
-            Refused::Long => self.explain_at(Refusal { text, rule: "L1" }, request, LONGEST),
-            Refused::Outside { at } => {
-                self.explain_at(Refusal { text, rule: "A" }, request, at as usize)
+            Refusal::Long => {
+                let reason = Reason::Long;
+                self.explain_at(NamedRefusal { text, reason }, request, LONGEST)
             }
-            Refused::Rule { number } => {
-                let rule = rule_name(number);
+            Refusal::Outside { at } => {
+                let reason = Reason::Outside { at };
+                self.explain_at(NamedRefusal { text, reason }, request, at as usize)
+            }
+            Refusal::Rule { number } => {
+                let reason = Reason::TermsRule { number };
                 let spec = checked.syntax().source();
                 let which = Which::Whole;
                 let terms = request;
                 let texts = Texts { spec, terms, which };
-                explain_given(self.alloc, Refusal { text, rule }, texts, self.err)
+                explain_given(self.alloc, NamedRefusal { text, reason }, texts, self.err)
             }
         }
     }
 
     /// Says what a refusal at a place of a request means, and what may stand there.
-    fn explain_at(&mut self, refusal: Refusal<'_>, request: &[u8], at: usize) -> io::Result<()> {
+    fn explain_at(
+        &mut self,
+        refusal: NamedRefusal<'_>,
+        request: &[u8],
+        at: usize,
+    ) -> io::Result<()> {
         let alloc = self.alloc;
-        match expected_words(alloc, refusal.rule, request, at) {
+        match expected_words(alloc, refusal.reason, request, at) {
             Some(expected) => {
                 let expected = expected.as_slice();
                 explain_place(alloc, refusal, request, at, expected, self.err)
             }
             None => explain_place(alloc, refusal, request, at, &[], self.err),
         }
-    }
-}
-
-/// The name of a rule of given terms.
-fn rule_name(number: u8) -> &'static str {
-    match number {
-        2 => "T2",
-        3 => "T3",
-        4 => "T4",
-        5 => "T5",
-        _ => "T6",
     }
 }
 
@@ -96,7 +94,7 @@ pub fn serve<H: Files, R: Read, W: Write, E: Write>(
     out: &mut W,
     err: &mut E,
     evidence: &mut Evidence<'_>,
-) -> Result<Finish, RunFault> {
+) -> Result<Ending, RunFault> {
     let request = evidence.invocation.request;
     let spec_name = evidence.name_of(Source::Spec);
     let name = evidence.name_of(Source::Term);
@@ -122,7 +120,7 @@ fn serve_on<S: Read + Drop, R: Read + Drop, W: Write, E: Write>(
     out: &mut W,
     err: &mut E,
     evidence: &mut Evidence<'_>,
-) -> Result<Finish, RunFault> {
+) -> Result<Ending, RunFault> {
     let alloc = evidence.alloc;
     let mut spec = evidence.record(spec);
     let mut requests = Recorded::new(alloc, requests, false);
@@ -132,13 +130,12 @@ fn serve_on<S: Read + Drop, R: Read + Drop, W: Write, E: Write>(
         is_asked: evidence.invocation.explain,
         err,
     };
-    let end = run_serve_within(
+    let end = run_serve(
         alloc,
         &mut spec,
         &mut requests,
         out,
         serve_settings(options),
-        &mut evidence.place,
         &mut explainer,
     );
     let name = evidence.name_of(Source::Spec);
@@ -146,7 +143,7 @@ fn serve_on<S: Read + Drop, R: Read + Drop, W: Write, E: Write>(
     let name = evidence.name_of(Source::Term);
     evidence.note_read(requests.finish(), name);
     match end {
-        Ok(finish) => Ok(finish),
+        Ok(ending) => Ok(ending),
         Err(ServeFault::Memory) => Err(RunFault::Memory { lines: 0 }),
         Err(ServeFault::Read { answered: _ }) => Err(RunFault::Read),
         Err(ServeFault::Write { answered: _ }) => Err(RunFault::Write),

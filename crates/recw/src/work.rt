@@ -3,7 +3,7 @@
 use crate::evidence::Evidence;
 use crate::options::{run_settings, trace_options};
 use rec_look::run_trace;
-use rec_run::{Finish, Observer, Profiler, RunDepthFault, Watch, run_observed};
+use rec_run::{Ending, Observer, Profiler, RunDepthFault, Watch, run_observed};
 use rec_stuck::{StuckReport, run_stuck};
 use recw_words::{EvalOptions, Shown};
 use std::io::{Read, Write};
@@ -17,7 +17,7 @@ pub trait Work {
         terms: Option<&mut T>,
         out: &mut W,
         evidence: &mut Evidence<'_>,
-    ) -> Result<Finish, RunDepthFault>;
+    ) -> Result<Ending, RunDepthFault>;
 }
 
 /// Tells their values, and an observer how far they are and what they took.
@@ -36,11 +36,10 @@ impl<V: Watch, P: Profiler> Work for Values<V, P> {
         terms: Option<&mut T>,
         out: &mut W,
         evidence: &mut Evidence<'_>,
-    ) -> Result<Finish, RunDepthFault> {
+    ) -> Result<Ending, RunDepthFault> {
         let alloc = evidence.alloc;
         let settings = run_settings(self.options);
-        let place = &mut evidence.place;
-        run_observed(alloc, spec, terms, out, settings, place, &mut self.observer)
+        run_observed(alloc, spec, terms, out, settings, &mut self.observer)
     }
 }
 
@@ -60,11 +59,10 @@ impl<V: Watch, P: Profiler> Work for Calls<V, P> {
         terms: Option<&mut T>,
         out: &mut W,
         evidence: &mut Evidence<'_>,
-    ) -> Result<Finish, RunDepthFault> {
+    ) -> Result<Ending, RunDepthFault> {
         let alloc = evidence.alloc;
         let settings = run_settings(self.options);
-        let place = &mut evidence.place;
-        run_stuck(alloc, spec, terms, out, settings, place, &mut self.report)
+        run_stuck(alloc, spec, terms, out, settings, &mut self.report)
     }
 }
 
@@ -84,10 +82,9 @@ impl Work for Firings<'_> {
         terms: Option<&mut T>,
         out: &mut W,
         evidence: &mut Evidence<'_>,
-    ) -> Result<Finish, RunDepthFault> {
+    ) -> Result<Ending, RunDepthFault> {
         let alloc = evidence.alloc;
         let options = trace_options(self.options, self.shown);
-        let place = &mut evidence.place;
-        run_trace(alloc, spec, terms, out, options, place).map_err(RunDepthFault::Run)
+        run_trace(alloc, spec, terms, out, options).map_err(RunDepthFault::Run)
     }
 }

@@ -1,10 +1,13 @@
 -- What the host is answered, by what was handed over.
 use Rattle.std.proofs.Common.{◌≡◌, ◌^◌, refl, Bool, ℕ, List, [], Option, Some, None, Result, Ok, Err, IfOk, IfErr, OnOk, length, min, ap, subst, ◌∙◌, arith}
 use Rattle.rx_run.specs.Due.{Due}
-use Rattle.rx_run.specs.Run.{Ends, IsPlaced}
+use Rattle.rx_run.specs.Refusals.{finish_of, place_of}
+use Rattle.rx_run.specs.Run.{Concludes, Ends, IsPlaced}
 use Rattle.rx_run.specs.declared.ending.Finish.{Finish}
 use Rattle.rx_run.specs.declared.ending.Place.{Place}
 use Rattle.rx_run.specs.declared.ending.RunFault.{RunFault}
+use Rattle.rx_run.specs.declared.refusal.Ending.{Ending}
+use Rattle.rx_run.proofs.WholeRunLemmas.{ends_with, placed_with}
 use Rattle.rec_run.specs.Output.{IsDue, bare}
 use Rattle.rec_run.specs.Run.{Texts}
 use Rattle.rec_check.specs.Runs.{Tells}
@@ -12,7 +15,7 @@ use Rattle.rec_check.specs.declared.runs.Judgement.{Judgement}
 use Rattle.rx_look.specs.Faults.{fault_of_run}
 use Rattle.rx_look.specs.declared.ending.LookFault.{LookFault}
 use Rattle.rec_look.specs.Traces.{IsTraceDueFor, Shown}
-use Rattle.recw_web.specs.Answers.{Answers, IsCheckDue, IsEvalDue, IsTraceAsked, checked, finish_of, shown_as}
+use Rattle.recw_web.specs.Answers.{Answers, IsCheckDue, IsEvalDue, IsTraceAsked, checked, judged_finish, shown_as}
 use Rattle.recw_web.specs.Inner.Handing.{IsHanded, IsWithheld}
 use Rattle.recw_web.specs.declared.options.Options.{Options}
 use Rattle.recw_web.specs.declared.options.TraceOptions.{TraceOptions}
@@ -52,6 +55,16 @@ module _ (IsDue : Due → Type 0) (lines : List ℕ) (place : Option Place) (sta
   answers_by (Ok finish) before b h w e p = answers_handed finish h (subst (λ z. Ends IsDue finish (Some z) (Some lines)) b e) p
   answers_by (Err fault) before b h w e p = answers_withheld w
 
+-- the same where the run answers the refusal
+pub answers_ended : (IsDue : Due → Type 0) (lines : List ℕ) (status : ℕ) (told : Told) (old new : List ℕ) (end : Result Ending RunFault)
+    (before : List ℕ) → before ≡ [] → IfOk end (λ e. IsHanded (finish_of e) lines (place_of e) status told old new)
+    → IfErr end (λ f. IsWithheld status old new) → IfOk end (λ e. Concludes IsDue e (Some before) (Some lines)) → Answers IsDue status told old new
+answers_ended IsDue lines status told old new (Ok ending) before b h w e =
+    let c = subst (λ z. Concludes IsDue ending (Some z) (Some lines)) b e in
+    answers_handed IsDue lines (place_of ending) status told old new (finish_of ending) h (ends_with IsDue ending (Some []) (Some lines) c)
+    (placed_with IsDue ending (Some []) (Some lines) c)
+answers_ended IsDue lines status told old new (Err fault) before b h w e = answers_withheld IsDue lines None status told old new w
+
 -- the run's limits are those that were asked for
 pub answers_asked : (asked : Options) (count : Bool) (steps : ℕ) (spec : List ℕ) (terms : Option (List ℕ)) (status : ℕ) (told : Told)
     (old new : List ℕ) → steps ≡ min asked.steps (10 ^ 18) → count ≡ asked.count → Answers (IsDue spec terms (bare count) steps) status told old new
@@ -62,14 +75,14 @@ answers_asked asked count steps spec terms status told old new e f h =
 
 -- a check ended so, or met a fault, and is handed over as a run that does
 pub answers_checked : (name spec lines : List ℕ) (judged : Result Judgement RunFault) (end : Result Finish RunFault) (status : ℕ) (told : Told)
-    (old new before : List ℕ) → before ≡ [] → IfOk judged (λ j. end ≡ Ok (finish_of j)) → IfErr judged (λ f. end ≡ Err f)
+    (old new before : List ℕ) → before ≡ [] → IfOk judged (λ j. end ≡ Ok (judged_finish j)) → IfErr judged (λ f. end ≡ Err f)
     → IfOk judged (λ j. Tells name spec j (Some before) (Some lines)) → IfOk end (λ f. IsHanded f lines None status told old new)
     → IfErr end (λ f. IsWithheld status old new) → Answers (IsCheckDue name spec) status told old new
 answers_checked name spec lines (Ok j) end status told old new before b o f t h w =
     let g = subst (λ z. Tells name spec j (Some z) (Some lines)) b t in
     let due = checked name spec j g.found in
     let is_due : IsCheckDue name spec due = record { found = g.found; end = j; examined = g.examined; is_due = refl } in
-    answers_handed (IsCheckDue name spec) lines None status told old new (finish_of j)
+    answers_handed (IsCheckDue name spec) lines None status told old new (judged_finish j)
     (subst (λ z. IfOk z (λ x. IsHanded x lines None status told old new)) o h)
     (record { due = due; is_due = is_due; ends = refl; written = g.written })
     (record { due = due; is_due = is_due; placed = refl })
@@ -77,15 +90,16 @@ answers_checked name spec lines (Err fault) end status told old new before b o f
     answers_withheld (IsCheckDue name spec) lines None status told old new (subst (λ z. IfErr z (λ x. IsWithheld status old new)) f w)
 
 -- a run of a graph ended so, or met a fault, and is handed over as a run that does
-pub answers_drawn : (IsDue : Due → Type 0) (lines : List ℕ) (place : Option Place) (drawn : Result Finish LookFault) (end : Result Finish RunFault)
-    (status : ℕ) (told : Told) (old new before : List ℕ) → before ≡ [] → IfOk drawn (λ f. end ≡ Ok f)
-    → IfErr drawn (λ l. (f : RunFault) × (end ≡ Err f) × (fault_of_run f ≡ l)) → IfOk drawn (λ f. Ends IsDue f (Some before) (Some lines))
-    → OnOk drawn (IsPlaced IsDue place) → IfOk end (λ f. IsHanded f lines place status told old new) → IfErr end (λ f. IsWithheld status old new)
+pub answers_drawn : (IsDue : Due → Type 0) (lines : List ℕ) (drawn : Result Ending LookFault) (end : Result Ending RunFault) (status : ℕ)
+    (told : Told) (old new before : List ℕ) → before ≡ [] → IfOk drawn (λ e. end ≡ Ok e)
+    → IfErr drawn (λ l. (f : RunFault) × (end ≡ Err f) × (fault_of_run f ≡ l)) → IfOk drawn (λ e. Concludes IsDue e (Some before) (Some lines))
+    → IfOk end (λ e. IsHanded (finish_of e) lines (place_of e) status told old new) → IfErr end (λ f. IsWithheld status old new)
     → Answers IsDue status told old new
-answers_drawn IsDue lines place (Ok finish) end status told old new before b o f e p h w =
-    answers_by IsDue lines place status told old new (Ok finish) before b (subst (λ z. IfOk z (λ x. IsHanded x lines place status told old new)) o h) tt e p
-answers_drawn IsDue lines place (Err l) end status told old new before b o f e p h w =
-    answers_withheld IsDue lines place status told old new (subst (λ z. IfErr z (λ x. IsWithheld status old new)) f.1 w)
+answers_drawn IsDue lines (Ok ending) end status told old new before b o f e h w =
+    answers_ended IsDue lines status told old new (Ok ending) before b
+    (subst (λ z. IfOk z (λ x. IsHanded (finish_of x) lines (place_of x) status told old new)) o h) tt e
+answers_drawn IsDue lines (Err l) end status told old new before b o f e h w =
+    answers_withheld IsDue lines None status told old new (subst (λ z. IfErr z (λ x. IsWithheld status old new)) f.1 w)
 
 -- the run's limits and how it shows traces are those that were asked for
 pub answers_traced : (asked : TraceOptions) (shown : Shown) (steps : ℕ) (spec : List ℕ) (terms : Option (List ℕ)) (status : ℕ) (told : Told)

@@ -43,15 +43,15 @@ IsTraceAsked options spec terms d = IsTraceDueFor (shown_as options)
     (min options.limits.steps (10 ^ 18)) (record { spec = spec; terms = terms }) d
 
 -- how a check ends: warnings refuse nothing
-abbrev pub finish_of : Judgement → Finish
-finish_of judged.Good = Done
-finish_of judged.Warned = Done
-finish_of judged.Refused = Refused
+abbrev pub judged_finish : Judgement → Finish
+judged_finish judged.Good = Done
+judged_finish judged.Warned = Done
+judged_finish judged.Refused = Refused
 
 -- the lines of what is found are due, and no place beside them
 abbrev pub checked : List ℕ → List ℕ → Judgement → List Found → Due
 checked name spec end found =
-    record { finish = finish_of end; text = lines_of name spec found; place = None }
+    record { finish = judged_finish end; text = lines_of name spec found; place = None }
 
 -- what is due for a specification of this name that is checked
 pub record IsCheckDue (name spec : List ℕ) (d : Due) : Type 0 where

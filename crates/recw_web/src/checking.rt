@@ -1,7 +1,7 @@
 //! Checks.
 
 ghost use Rattle.std.specs.Prelude.{◌≡◌, IfErr, IfOk};
-ghost use Rattle.recw_web.specs.Answers.{Answers, IsCheckDue, finish_of};
+ghost use Rattle.recw_web.specs.Answers.{Answers, IsCheckDue, judged_finish};
 
 use crate::handing::hand_over;
 use crate::told::Told;
@@ -23,12 +23,12 @@ pub extern "C" fn recw_check(
 {
     let mut lines = Vec::new(alloc);
     let judged = check_text(alloc, name, spec, &mut lines);
-    hand_over(finished(judged), lines, None, out, told)
+    hand_over(finish_of(judged), lines, None, out, told)
 }
 
 /// The end of a run that came to a judgement.
-fn finished(judged: Result<Judgement, RunFault>) -> Result<Finish, RunFault>
-    ensures ended { IfOk judged (λ end. result ≡ Ok (finish_of end)) }
+fn finish_of(judged: Result<Judgement, RunFault>) -> Result<Finish, RunFault>
+    ensures ended { IfOk judged (λ end. result ≡ Ok (judged_finish end)) }
     ensures stopped { IfErr judged (λ fault. result ≡ Err fault) }
 {
     match judged {

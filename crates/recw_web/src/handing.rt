@@ -1,10 +1,11 @@
 //! What a run came to is handed to the host.
 
 ghost use Rattle.std.specs.Prelude.{◌≡◌, ◌<◌, IfErr, IfOk, length, take};
+ghost use Rattle.rx_run.specs.Refusals.{finish_of, place_of};
 ghost use Rattle.recw_web.specs.Inner.Handing.{IsHanded, IsWithheld};
 
 use crate::told::Told;
-use rec_run::{Finish, Place, RunFault};
+use rec_run::{Ending, Finish, Place, RunFault};
 
 /// All lines were written.
 const DONE: u32 = 0;
@@ -22,6 +23,23 @@ const OUT_OF_MEMORY: u32 = 3;
 const OUT_OF_CELLS: u32 = 4;
 
 /// Writes the lines of a run to the front of the room, and answers how it ended.
+pub(crate) fn hand_ending(
+    end: Result<Ending, RunFault>,
+    lines: Vec<u8>,
+    out: &mut [u8],
+    told: &mut Told,
+) -> u32
+    ensures handed { IfOk end (λ ending. IsHanded (finish_of ending) lines.items (place_of ending)
+        result told.new out.old out.new) }
+    ensures withheld { IfErr end (λ _. IsWithheld result out.old out.new) }
+{
+    match end {
+        Ok(ending) => hand_over(Ok(ending.finish()), lines, ending.place(), out, told),
+        Err(fault) => hand_over(Err(fault), lines, None, out, told),
+    }
+}
+
+/// The same of a run that says of a refusal that there was one, and where.
 pub(crate) fn hand_over(
     end: Result<Finish, RunFault>,
     lines: Vec<u8>,

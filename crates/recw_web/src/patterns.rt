@@ -3,9 +3,9 @@
 ghost use Rattle.rx_run.specs.PatternRuns.{IsMakeDue, IsMatchDue};
 ghost use Rattle.recw_web.specs.Answers.{Answers};
 
-use crate::handing::hand_over;
+use crate::handing::hand_ending;
 use crate::told::Told;
-use rx_run::{run_make_at, run_match_at};
+use rx_run::{make_term, match_term};
 use std::alloc::Global;
 
 /// Matches a pattern with a term.
@@ -21,9 +21,8 @@ pub extern "C" fn recw_match(
 {
     let mut text = term;
     let mut lines = Vec::new(alloc);
-    let mut place = None;
-    let end = run_match_at(alloc, pattern, &mut text, &mut lines, &mut place);
-    hand_over(end, lines, place, out, told)
+    let end = match_term(alloc, pattern, &mut text, &mut lines);
+    hand_ending(end, lines, out, told)
 }
 
 /// Makes a term from a pattern and a list of trees.
@@ -38,7 +37,6 @@ pub extern "C" fn recw_make(
     ensures { Answers (IsMakeDue pattern.now args.now) result told.new out.old out.new }
 {
     let mut lines = Vec::new(alloc);
-    let mut place = None;
-    let end = run_make_at(alloc, pattern, args, &mut lines, &mut place);
-    hand_over(end, lines, place, out, told)
+    let end = make_term(alloc, pattern, args, &mut lines);
+    hand_ending(end, lines, out, told)
 }

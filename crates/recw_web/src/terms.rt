@@ -6,10 +6,10 @@ ghost use Rattle.rx_look.specs.Faults.{fault_of_run};
 ghost use Rattle.rx_run.specs.TermRuns.{IsShareDue, IsTermDue};
 ghost use Rattle.recw_web.specs.Answers.{Answers};
 
-use crate::handing::hand_over;
+use crate::handing::hand_ending;
 use crate::told::Told;
-use rx_look::{LookFault, run_share_dot_at};
-use rx_run::{Finish, RunFault, run_aterm_at, run_share_at};
+use rx_look::{LookFault, run_share_dot};
+use rx_run::{Ending, RunFault, print_term, share_term};
 use std::alloc::Global;
 
 /// Prints a term.
@@ -19,9 +19,8 @@ pub extern "C" fn recw_aterm(alloc: Global, term: &[u8], out: &mut [u8], told: &
 {
     let mut text = term;
     let mut lines = Vec::new(alloc);
-    let mut place = None;
-    let end = run_aterm_at(alloc, &mut text, &mut lines, &mut place);
-    hand_over(end, lines, place, out, told)
+    let end = print_term(alloc, &mut text, &mut lines);
+    hand_ending(end, lines, out, told)
 }
 
 /// Prints a term, and counts its different parts.
@@ -31,9 +30,8 @@ pub extern "C" fn recw_share(alloc: Global, term: &[u8], out: &mut [u8], told: &
 {
     let mut text = term;
     let mut lines = Vec::new(alloc);
-    let mut place = None;
-    let end = run_share_at(alloc, &mut text, &mut lines, &mut place);
-    hand_over(end, lines, place, out, told)
+    let end = share_term(alloc, &mut text, &mut lines);
+    hand_ending(end, lines, out, told)
 }
 
 /// Writes the shared graph of a term for Graphviz, of at most so many nodes.
@@ -49,19 +47,18 @@ pub extern "C" fn recw_share_dot(
 {
     let mut text = term;
     let mut lines = Vec::new(alloc);
-    let mut place = None;
-    let end = run_share_dot_at(alloc, &mut text, nodes, &mut lines, &mut place);
-    hand_over(ended(end), lines, place, out, told)
+    let end = run_share_dot(alloc, &mut text, nodes, &mut lines);
+    hand_ending(end_of(end), lines, out, told)
 }
 
 /// The end of a run that counts no lines.
-fn ended(end: Result<Finish, LookFault>) -> Result<Finish, RunFault>
-    ensures finished { IfOk end (λ finish. result ≡ Ok finish) }
+fn end_of(end: Result<Ending, LookFault>) -> Result<Ending, RunFault>
+    ensures ended { IfOk end (λ ending. result ≡ Ok ending) }
     ensures stopped { IfErr end (λ look. (fault : RunFault) × (result ≡ Err fault)
         × (fault_of_run fault ≡ look)) }
 {
     match end {
-        Ok(finish) => Ok(finish),
+        Ok(ending) => Ok(ending),
         Err(LookFault::Memory) => Err(RunFault::Memory { lines: 0 }),
         Err(LookFault::Room) => Err(RunFault::Room { lines: 0 }),
         Err(LookFault::Read) => Err(RunFault::Read),

@@ -3,7 +3,7 @@
 ghost use Rattle.std.specs.Prelude.{None, Some};
 ghost use Rattle.recw_web.specs.Answers.{Answers, IsTraceAsked};
 
-use crate::handing::hand_over;
+use crate::handing::hand_ending;
 use crate::options::TraceOptions;
 use crate::told::Told;
 use rec_look::run_trace;
@@ -22,16 +22,14 @@ pub extern "C" fn recw_trace(
 {
     let mut text = spec;
     let mut lines = Vec::new(alloc);
-    let mut place = None;
     let end = run_trace(
         alloc,
         &mut text,
         None::<&mut &[u8]>,
         &mut lines,
         options.within(),
-        &mut place,
     );
-    hand_over(end, lines, place, out, told)
+    hand_ending(end, lines, out, told)
 }
 
 /// Traces the evaluation of the terms of a specification, and then of given ones.
@@ -50,14 +48,12 @@ pub extern "C" fn recw_trace_terms(
     let mut text = spec;
     let mut given = terms;
     let mut lines = Vec::new(alloc);
-    let mut place = None;
     let end = run_trace(
         alloc,
         &mut text,
         Some(&mut given),
         &mut lines,
         options.within(),
-        &mut place,
     );
-    hand_over(end, lines, place, out, told)
+    hand_ending(end, lines, out, told)
 }

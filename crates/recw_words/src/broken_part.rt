@@ -5,28 +5,32 @@ use crate::named::{argument_misfit, nearest_symbol, write_misfit, write_nearest,
 use crate::names::{find_symbol, word_in};
 use crate::place::show_bytes;
 use rec_syntax::{Declaration, Syntax};
+use rx_run::Reason;
 use std::io;
 use std::io::Write;
 
 /// The first part of a given term that breaks one of the rules 2 to 6, where that can be told.
-pub fn first_broken<'a>(syntax: &Syntax, parts: &[Part<'a>], rule: &str) -> Option<Part<'a>> {
+pub fn first_broken<'a>(syntax: &Syntax, parts: &[Part<'a>], reason: Reason) -> Option<Part<'a>> {
+    let Reason::TermsRule { number } = reason else {
+        return None;
+    };
     parts
         .iter()
-        .find(|part| is_broken(syntax, parts, part, rule))
+        .find(|part| is_broken(syntax, parts, part, number))
         .copied()
 }
 
-/// Whether a part breaks a rule.
-fn is_broken(syntax: &Syntax, parts: &[Part<'_>], part: &Part<'_>, rule: &str) -> bool {
+/// Whether a part breaks the rule of this number.
+fn is_broken(syntax: &Syntax, parts: &[Part<'_>], part: &Part<'_>, rule: u8) -> bool {
     match rule {
-        "T2" => !matches!(part.kind, Kind::Plain | Kind::Quoted),
-        "T3" => part.is_annotated && part.parent.is_some(),
-        "T4" => !is_declared(syntax, part),
-        "T5" => match find_symbol(syntax, part.name) {
+        2 => !matches!(part.kind, Kind::Plain | Kind::Quoted),
+        3 => part.is_annotated && part.parent.is_some(),
+        4 => !is_declared(syntax, part),
+        5 => match find_symbol(syntax, part.name) {
             Some(symbol) => symbol.arguments.len() != part.count,
             None => false,
         },
-        "T6" => misfit_symbol(parts, part).is_some_and(|(symbol, index)| {
+        6 => misfit_symbol(parts, part).is_some_and(|(symbol, index)| {
             argument_misfit(syntax, symbol, index, part.name).is_some()
         }),
         _ => false,
@@ -62,14 +66,14 @@ pub fn write_part<W: Write>(
     syntax: &Syntax,
     parts: &[Part<'_>],
     part: &Part<'_>,
-    rule: &str,
+    reason: Reason,
     out: &mut W,
 ) -> io::Result<()> {
-    match rule {
-        "T2" => write_kind(syntax, part, out),
-        "T3" => write_annotated(part, out),
-        "T4" => write_undeclared(syntax, part, out),
-        "T5" => write_count(syntax, part, out),
+    match reason {
+        Reason::TermsRule { number: 2 } => write_kind(syntax, part, out),
+        Reason::TermsRule { number: 3 } => write_annotated(part, out),
+        Reason::TermsRule { number: 4 } => write_undeclared(syntax, part, out),
+        Reason::TermsRule { number: 5 } => write_count(syntax, part, out),
         _ => write_argument(syntax, parts, part, out),
     }
 }

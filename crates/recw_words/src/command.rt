@@ -214,11 +214,11 @@ const CHECK: Subcommand = Subcommand {
 /// The command without the program's name before its words.
 pub fn command<'a>(alloc: Global) -> Result<Command<'a>, AllocError> {
     let subcommands = subcommands_of(alloc, table())?;
-    named(bare_command(alloc).subcommands(subcommands))
+    name_command(bare_command(alloc).subcommands(subcommands))
 }
 
 /// The command with its name, where there is memory for both.
-fn named(command: Result<Command<'_>, AllocError>) -> Result<Command<'_>, AllocError> {
+fn name_command(command: Result<Command<'_>, AllocError>) -> Result<Command<'_>, AllocError> {
     command?.bin_name("recw")
 }
 

@@ -9,23 +9,24 @@ use crate::place::{Spot, place_in, show_line};
 use crate::refusals::words_of;
 use crate::text_name::TextName;
 use rec_syntax::{Syntax, read_spec};
+use rx_run::Reason;
 use std::alloc::Global;
 use std::io;
 use std::io::{Error, Write};
 
-/// A refusal of a text.
+/// A refusal of a text, and what the text is called.
 #[derive(Clone, Copy)]
-pub struct Refusal<'a> {
+pub struct NamedRefusal<'a> {
     /// What the text is called.
     pub text: TextName<'a>,
-    /// The name of the rule that it breaks.
-    pub rule: &'a str,
+    /// Why it is refused.
+    pub reason: Reason,
 }
 
 /// Tells of a refusal at a place of a text, and which words are expected there.
 pub fn explain_place<W: Write>(
     alloc: Global,
-    refusal: Refusal<'_>,
+    refusal: NamedRefusal<'_>,
     text: &[u8],
     at: usize,
     expected: &[&str],
@@ -33,7 +34,7 @@ pub fn explain_place<W: Write>(
 ) -> io::Result<()> {
     let spot = place_in(text, at);
     explain_spot(refusal, &spot, out)?;
-    write_about(alloc, refusal.rule, text, at, out)?;
+    write_about(alloc, refusal.reason, text, at, out)?;
     write_expected(expected, out)?;
     show_below(&spot, out)?;
     explain_misspelling(alloc, refusal, text, at, out)
@@ -42,14 +43,15 @@ pub fn explain_place<W: Write>(
 /// Tells what stands at the place of a refusal, behind a line's other words.
 fn write_about<W: Write>(
     alloc: Global,
-    rule: &str,
+    reason: Reason,
     text: &[u8],
     at: usize,
     out: &mut W,
 ) -> io::Result<()> {
-    match rule {
-        "G" | "A" => write_here(text, at, out),
-        _ => write_names(alloc, rule, text, at, out),
+    match reason {
+        Reason::Grammar { at: _ } | Reason::Outside { at: _ } => write_here(text, at, out),
+        Reason::Rule { number, at: _ } => write_names(alloc, number, text, at, out),
+        _ => Ok(()),
     }
 }
 
@@ -60,9 +62,13 @@ fn show_below<W: Write>(spot: &Spot<'_>, out: &mut W) -> io::Result<()> {
 }
 
 /// Says where a refusal stands, and what is wrong.
-fn explain_spot<W: Write>(refusal: Refusal<'_>, spot: &Spot<'_>, out: &mut W) -> io::Result<()> {
+fn explain_spot<W: Write>(
+    refusal: NamedRefusal<'_>,
+    spot: &Spot<'_>,
+    out: &mut W,
+) -> io::Result<()> {
     write_spot(refusal.text, spot, out)?;
-    explain_rule(refusal.rule, out)
+    explain_reason(refusal.reason, out)
 }
 
 /// Writes a text's name, a line, where the name has none, and a column.
@@ -82,13 +88,13 @@ fn write_numbers<W: Write>(text: TextName<'_>, spot: &Spot<'_>, out: &mut W) -> 
 
 /// Tells of a refusal without a place, and which item of a list it is about, where that is known.
 pub fn explain_text<W: Write>(
-    refusal: Refusal<'_>,
+    refusal: NamedRefusal<'_>,
     item: Option<Item>,
     out: &mut W,
 ) -> io::Result<()> {
     refusal.text.write(out)?;
     out.write_all(b": ")?;
-    explain_rule(refusal.rule, out)?;
+    explain_reason(refusal.reason, out)?;
     explain_item(item, out)?;
     out.write_all(b"\n")
 }
@@ -117,7 +123,7 @@ impl Texts<'_> {
 /// Tells of a refusal of a given term, which of its parts breaks the rule, and where that stands.
 pub fn explain_given<W: Write>(
     alloc: Global,
-    refusal: Refusal<'_>,
+    refusal: NamedRefusal<'_>,
     texts: Texts<'_>,
     out: &mut W,
 ) -> io::Result<()> {
@@ -131,7 +137,7 @@ pub fn explain_given<W: Write>(
 fn explain_by<W: Write>(
     alloc: Global,
     syntax: &Syntax,
-    refusal: Refusal<'_>,
+    refusal: NamedRefusal<'_>,
     texts: Texts<'_>,
     out: &mut W,
 ) -> io::Result<()> {
@@ -145,15 +151,15 @@ fn explain_by<W: Write>(
 fn explain_among<W: Write>(
     syntax: &Syntax,
     parts: &[Part<'_>],
-    refusal: Refusal<'_>,
+    refusal: NamedRefusal<'_>,
     texts: Texts<'_>,
     out: &mut W,
 ) -> io::Result<()> {
-    match first_broken(syntax, parts, refusal.rule) {
+    match first_broken(syntax, parts, refusal.reason) {
         Some(part) => {
             let spot = place_in(texts.terms, part.at);
             explain_element(refusal, texts.item(), &spot, out)?;
-            write_part(syntax, parts, &part, refusal.rule, out)?;
+            write_part(syntax, parts, &part, refusal.reason, out)?;
             show_below(&spot, out)
         }
         None => explain_text(refusal, texts.item(), out),
@@ -162,7 +168,7 @@ fn explain_among<W: Write>(
 
 /// Says where a refusal of a given term stands, what is wrong, and in which item of a list.
 fn explain_element<W: Write>(
-    refusal: Refusal<'_>,
+    refusal: NamedRefusal<'_>,
     item: Option<Item>,
     spot: &Spot<'_>,
     out: &mut W,
@@ -201,12 +207,9 @@ fn without_number(said: &str) -> &str {
     }
 }
 
-/// Says what a rule asks for, where it is known.
-fn explain_rule<W: Write>(rule: &str, out: &mut W) -> io::Result<()> {
-    match words_of(rule) {
-        Some(words) => write!(out, "{rule}: {words}"),
-        None => write!(out, "{rule}"),
-    }
+/// Says what is wrong.
+fn explain_reason<W: Write>(reason: Reason, out: &mut W) -> io::Result<()> {
+    write!(out, "{reason}: {}", words_of(reason))
 }
 
 /// Names what stands where a text leaves its grammar, where its looks don't tell.
@@ -241,12 +244,12 @@ fn write_expected<W: Write>(words: &[&str], out: &mut W) -> io::Result<()> {
 /// Tells where a reserved word may be misspelt, of a specification that leaves its grammar.
 fn explain_misspelling<W: Write>(
     alloc: Global,
-    refusal: Refusal<'_>,
+    refusal: NamedRefusal<'_>,
     text: &[u8],
     at: usize,
     out: &mut W,
 ) -> io::Result<()> {
-    if refusal.rule != "G" {
+    if !matches!(refusal.reason, Reason::Grammar { at: _ }) {
         return Ok(());
     }
     match find_misspelling(alloc, text, at) {

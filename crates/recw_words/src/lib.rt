@@ -29,7 +29,9 @@ mod wrong;
 pub use asked::{Asked, read_words};
 pub use console::{Audience, Console};
 pub use elements::Which;
-pub use explain::{Refusal, Texts, explain_given, explain_place, explain_text, explain_trouble};
+pub use explain::{
+    NamedRefusal, Texts, explain_given, explain_place, explain_text, explain_trouble,
+};
 pub use given::Given;
 pub use guarded::Guarded;
 pub use item::Item;

@@ -12,18 +12,15 @@ use std::io::Write;
 /// How many sorts are told at most.
 const MOST_SORTS: usize = 20;
 
-/// Tells of the names at the place where a specification breaks a rule, behind a line's other
-/// words; nothing where there is no memory for it.
+/// Tells of the names at the place where a specification breaks the rule of this number, behind a
+/// line's other words; nothing where there is no memory for it.
 pub fn write_names<W: Write>(
     alloc: Global,
-    rule: &str,
+    rule: u8,
     text: &[u8],
     at: usize,
     out: &mut W,
 ) -> io::Result<()> {
-    if !rule.starts_with('S') {
-        return Ok(());
-    }
     match read_spec(alloc, text) {
         Ok(syntax) => write_rule(&syntax, rule, at, out),
         Err(_) => Ok(()),
@@ -31,23 +28,23 @@ pub fn write_names<W: Write>(
 }
 
 /// The same for a specification that was read.
-fn write_rule<W: Write>(syntax: &Syntax, rule: &str, at: usize, out: &mut W) -> io::Result<()> {
+fn write_rule<W: Write>(syntax: &Syntax, rule: u8, at: usize, out: &mut W) -> io::Result<()> {
     match rule {
-        "S6" => write_count(syntax, at, out),
-        "S7" => write_argument(syntax, at, out),
-        "S9" => write_sides(syntax, at, out),
+        6 => write_count(syntax, at, out),
+        7 => write_argument(syntax, at, out),
+        9 => write_sides(syntax, at, out),
         _ => write_word(syntax, rule, word_at(syntax.source(), at), out),
     }
 }
 
 /// The same of a rule that is about one word.
-fn write_word<W: Write>(syntax: &Syntax, rule: &str, word: &[u8], out: &mut W) -> io::Result<()> {
+fn write_word<W: Write>(syntax: &Syntax, rule: u8, word: &[u8], out: &mut W) -> io::Result<()> {
     match rule {
-        "S1" => write_first(syntax, find_sort(syntax, word), out),
-        "S2" => write_first(syntax, name_of(find_symbol(syntax, word)), out),
-        "S3" => write_other_use(syntax, word, out),
-        "S4" => write_sorts(syntax, out),
-        "S5" => write_nearest(nearest_name(syntax, word), out),
+        1 => write_first(syntax, find_sort(syntax, word), out),
+        2 => write_first(syntax, name_of(find_symbol(syntax, word)), out),
+        3 => write_other_use(syntax, word, out),
+        4 => write_sorts(syntax, out),
+        5 => write_nearest(nearest_name(syntax, word), out),
         _ => Ok(()),
     }
 }

@@ -136,7 +136,7 @@ fn invocation_or_error<'a>(
     command: &mut Command<'a>,
     matches: &ArgMatches<'a>,
 ) -> Result<Invocation<'a>, Error> {
-    match asked_by(matches) {
+    match bare_by(matches) {
         Ok(asked) => Ok(asked.with(given_of(alloc, matches)?)),
         Err(Wrong { kind, message }) => Err(command.error(kind, message)?),
     }
@@ -199,15 +199,15 @@ impl<'a> Bare<'a> {
 }
 
 /// What the matched words ask for, or what is wrong with them.
-fn asked_by<'a>(matches: &ArgMatches<'a>) -> Result<Bare<'a>, Wrong> {
+fn bare_by<'a>(matches: &ArgMatches<'a>) -> Result<Bare<'a>, Wrong> {
     match matches.subcommand() {
-        Some((name, inner)) => asked_of(name, inner),
+        Some((name, inner)) => bare_of(name, inner),
         None => Err(MISSING),
     }
 }
 
 /// What the words of a subcommand ask for, or what is wrong with them.
-fn asked_of<'a>(name: &str, inner: &ArgMatches<'a>) -> Result<Bare<'a>, Wrong> {
+fn bare_of<'a>(name: &str, inner: &ArgMatches<'a>) -> Result<Bare<'a>, Wrong> {
     let request = request_of(name, inner)?;
     if request.is_read_twice() || names_twice(&request, inner) {
         return Err(READ_TWICE);

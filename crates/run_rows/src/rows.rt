@@ -117,7 +117,7 @@ pub(crate) fn push_often(rt: &impl Abort, text: &mut String, part: &str, times: 
 }
 
 /// A text with blanks up to a length.
-pub(crate) fn padded(rt: &impl Abort, alloc: Global, text: &str, length: usize) -> Vec<u8> {
+pub(crate) fn pad(rt: &impl Abort, alloc: Global, text: &str, length: usize) -> Vec<u8> {
     let mut padded = Vec::from_slice(alloc, text.as_bytes()).expect(rt, "memory");
     assert!(rt; padded.resize(length, b' ').is_ok());
     padded

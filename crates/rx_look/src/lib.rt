@@ -15,4 +15,4 @@ mod runs;
 pub use drawing::{Extent, write_graph_to};
 pub use ending::LookFault;
 pub use indented::{write_indented, write_indented_to};
-pub use runs::{run_aterm_indented, run_aterm_indented_at, run_share_dot, run_share_dot_at};
+pub use runs::{run_aterm_indented, run_share_dot};

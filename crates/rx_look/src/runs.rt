@@ -1,12 +1,12 @@
 //! Runs on the text of one term: printing it over several lines, and writing its shared graph.
 
-ghost use Rattle.std.specs.Prelude.{◌≡◌, ℕ, None, IfErr, IfOk, IsSome, OnErr, OnOk};
+ghost use Rattle.std.specs.Prelude.{◌≡◌, ℕ, IfErr, IfOk, IsSome, OnOk};
 ghost use Rattle.rx_term.specs.Parts.{part_count};
 ghost use Rattle.rx_term.specs.Store.{tree_at};
 ghost use Rattle.rx_term.specs.Walks.{held_tree};
 ghost use Rattle.rx_text.specs.Input.{IsReadable, IsSameInput, remaining_in};
 ghost use Rattle.rx_text.specs.Output.{IsSameOutput, IsWritable, Writes, contents_of};
-ghost use Rattle.rx_run.specs.Run.{EndsFor, IsPlacedFor, IsReadOut};
+ghost use Rattle.rx_run.specs.Run.{ConcludesFor, IsReadOut};
 ghost use Rattle.rx_run.specs.TermRuns.{IsDueOf, IsTermHeld, due_at, lines_at};
 ghost use Rattle.rx_look.specs.Due.{IsDotDue, IsIndentedDue, IsUnrooted, indented_lines, lines_for};
 ghost use Rattle.rx_look.specs.Graph.{graph_text};
@@ -16,7 +16,7 @@ use crate::drawing::{Extent, write_graph_to};
 use crate::ending::LookFault;
 use crate::indented::write_indented_to;
 use crate::reading::read_term;
-use rx_run::{Finish, MOST_CELLS, Place, Reading, empty_bank, write_refusal_to};
+use rx_run::{Ending, MOST_CELLS, Reading, empty_bank, write_refusal_to};
 use rx_term::{Term, TermBank};
 use rx_text::{Input, Output};
 use std::alloc::Global;
@@ -39,43 +39,16 @@ pub fn run_aterm_indented<R: Read, W: Write>(
     input: &mut R,
     indent: u8,
     out: &mut W,
-) -> Result<Finish, LookFault>
-    ensures output { IfOk result (λ finish. EndsFor (IsIndentedDue indent) (R.remaining input.old)
-        finish (W.contents out.old) (W.contents out.new)) }
+) -> Result<Ending, LookFault>
+    ensures ends { IfOk result (λ ending. ConcludesFor (IsIndentedDue indent)
+        (R.remaining input.old) ending (W.contents out.old) (W.contents out.new)) }
     ensures fault { IfErr result (λ fault. BreaksFor (IsIndentedDue indent) (R.remaining input.old)
         fault (W.contents out.old) (W.contents out.new)) }
-    ensures input_read { OnOk result (IsReadOut (R.remaining input.old) (R.remaining input.new)) }
-{
-    let mut place = None;
-    run_aterm_indented_at(alloc, input, indent, out, &mut place)
-}
-
-/// The same, with the place of the refusal that was written.
-pub fn run_aterm_indented_at<R: Read, W: Write>(
-    alloc: Global,
-    input: &mut R,
-    indent: u8,
-    out: &mut W,
-    place: &mut Option<Place>,
-) -> Result<Finish, LookFault>
-    ensures output { IfOk result (λ finish. EndsFor (IsIndentedDue indent) (R.remaining input.old)
-        finish (W.contents out.old) (W.contents out.new)) }
-    ensures place { OnOk result
-        (IsPlacedFor (IsIndentedDue indent) (R.remaining input.old) place.new) }
-    ensures fault { IfErr result (λ fault. BreaksFor (IsIndentedDue indent) (R.remaining input.old)
-        fault (W.contents out.old) (W.contents out.new)) }
-    ensures no_place { OnErr result (place.new ≡ None) }
     ensures input_read { OnOk result (IsReadOut (R.remaining input.old) (R.remaining input.new)) }
 {
     let mut input = Input::new(input);
     let mut output = Output::new(out);
-    run_on_term(
-        alloc,
-        &mut input,
-        Look::Indented(indent),
-        &mut output,
-        place,
-    )
+    run_on_term(alloc, &mut input, Look::Indented(indent), &mut output)
 }
 
 /// Reads the text of a term, writes its shared graph for Graphviz, of at most `nodes` nodes, and
@@ -85,37 +58,16 @@ pub fn run_share_dot<R: Read, W: Write>(
     input: &mut R,
     nodes: u32,
     out: &mut W,
-) -> Result<Finish, LookFault>
-    ensures output { IfOk result (λ finish. EndsFor (IsDotDue nodes) (R.remaining input.old)
-        finish (W.contents out.old) (W.contents out.new)) }
+) -> Result<Ending, LookFault>
+    ensures ends { IfOk result (λ ending. ConcludesFor (IsDotDue nodes) (R.remaining input.old)
+        ending (W.contents out.old) (W.contents out.new)) }
     ensures fault { IfErr result (λ fault. BreaksFor (IsDotDue nodes) (R.remaining input.old)
         fault (W.contents out.old) (W.contents out.new)) }
-    ensures input_read { OnOk result (IsReadOut (R.remaining input.old) (R.remaining input.new)) }
-{
-    let mut place = None;
-    run_share_dot_at(alloc, input, nodes, out, &mut place)
-}
-
-/// The same, with the place of the refusal that was written.
-pub fn run_share_dot_at<R: Read, W: Write>(
-    alloc: Global,
-    input: &mut R,
-    nodes: u32,
-    out: &mut W,
-    place: &mut Option<Place>,
-) -> Result<Finish, LookFault>
-    ensures output { IfOk result (λ finish. EndsFor (IsDotDue nodes) (R.remaining input.old)
-        finish (W.contents out.old) (W.contents out.new)) }
-    ensures place { OnOk result
-        (IsPlacedFor (IsDotDue nodes) (R.remaining input.old) place.new) }
-    ensures fault { IfErr result (λ fault. BreaksFor (IsDotDue nodes) (R.remaining input.old)
-        fault (W.contents out.old) (W.contents out.new)) }
-    ensures no_place { OnErr result (place.new ≡ None) }
     ensures input_read { OnOk result (IsReadOut (R.remaining input.old) (R.remaining input.new)) }
 {
     let mut input = Input::new(input);
     let mut output = Output::new(out);
-    run_on_term(alloc, &mut input, Look::Graph(nodes), &mut output, place)
+    run_on_term(alloc, &mut input, Look::Graph(nodes), &mut output)
 }
 
 /// The same from an input to an output. These are asked no more once they refused.
@@ -124,19 +76,15 @@ fn run_on_term<R: Read, W: Write>(
     input: &mut Input<'_, R>,
     look: Look,
     out: &mut Output<'_, W>,
-    place: &mut Option<Place>,
-) -> Result<Finish, LookFault>
+) -> Result<Ending, LookFault>
     requires readable { IsReadable input.old }
     requires writable { IsWritable out.old }
-    ensures output { IfOk result (λ finish. EndsFor (IsDueOf (lines_for look))
-        (remaining_in R.remaining input.old) finish (contents_of W.contents out.old)
+    ensures ends { IfOk result (λ ending. ConcludesFor (IsDueOf (lines_for look))
+        (remaining_in R.remaining input.old) ending (contents_of W.contents out.old)
         (contents_of W.contents out.new)) }
-    ensures place { OnOk result
-        (IsPlacedFor (IsDueOf (lines_for look)) (remaining_in R.remaining input.old) place.new) }
     ensures fault { IfErr result (λ fault. BreaksFor (IsDueOf (lines_for look))
         (remaining_in R.remaining input.old) fault (contents_of W.contents out.old)
         (contents_of W.contents out.new)) }
-    ensures no_place { OnErr result (place.new ≡ None) }
     ensures input_read { OnOk result (IsReadOut (remaining_in R.remaining input.old)
         (remaining_in R.remaining input.new)) }
     ensures same_input { IsSameInput input.old input.new }
@@ -144,9 +92,8 @@ fn run_on_term<R: Read, W: Write>(
     ensures read_cause { TellsRead input.new result }
     ensures write_cause { TellsWrite out.new result }
 {
-    *place = None;
     match empty_bank(alloc, MOST_CELLS) {
-        Ok(bank) => run_owned(alloc, bank, input, look, out, place),
+        Ok(bank) => run_owned(alloc, bank, input, look, out),
         Err(_) => Err(LookFault::Memory),
     }
 }
@@ -158,20 +105,16 @@ fn run_owned<B: TermBank + Drop, R: Read, W: Write>(
     input: &mut Input<'_, R>,
     look: Look,
     out: &mut Output<'_, W>,
-    place: &mut Option<Place>,
-) -> Result<Finish, LookFault>
+) -> Result<Ending, LookFault>
     requires unrooted { (t : ℕ) → (B.store bank).roots t ≡ 0 }
     requires readable { IsReadable input.old }
     requires writable { IsWritable out.old }
-    ensures output { IfOk result (λ finish. EndsFor (IsDueOf (lines_for look))
-        (remaining_in R.remaining input.old) finish (contents_of W.contents out.old)
+    ensures ends { IfOk result (λ ending. ConcludesFor (IsDueOf (lines_for look))
+        (remaining_in R.remaining input.old) ending (contents_of W.contents out.old)
         (contents_of W.contents out.new)) }
-    ensures place { OnOk result
-        (IsPlacedFor (IsDueOf (lines_for look)) (remaining_in R.remaining input.old) place.new) }
     ensures fault { IfErr result (λ fault. BreaksFor (IsDueOf (lines_for look))
         (remaining_in R.remaining input.old) fault (contents_of W.contents out.old)
         (contents_of W.contents out.new)) }
-    ensures no_place { OnErr result (place.new ≡ None) }
     ensures input_read { OnOk result (IsReadOut (remaining_in R.remaining input.old)
         (remaining_in R.remaining input.new)) }
     ensures same_input { IsSameInput input.old input.new }
@@ -179,7 +122,7 @@ fn run_owned<B: TermBank + Drop, R: Read, W: Write>(
     ensures read_cause { TellsRead input.new result }
     ensures write_cause { TellsWrite out.new result }
 {
-    run_over(alloc, &mut bank, input, look, out, place)
+    run_over(alloc, &mut bank, input, look, out)
 }
 
 /// The same over a bank, in which nothing is protected where its cells are counted.
@@ -189,20 +132,16 @@ fn run_over<B: TermBank, R: Read, W: Write>(
     input: &mut Input<'_, R>,
     look: Look,
     out: &mut Output<'_, W>,
-    place: &mut Option<Place>,
-) -> Result<Finish, LookFault>
+) -> Result<Ending, LookFault>
     requires unrooted { IsUnrooted look (B.store bank.old) }
     requires readable { IsReadable input.old }
     requires writable { IsWritable out.old }
-    ensures output { IfOk result (λ finish. EndsFor (IsDueOf (lines_for look))
-        (remaining_in R.remaining input.old) finish (contents_of W.contents out.old)
+    ensures ends { IfOk result (λ ending. ConcludesFor (IsDueOf (lines_for look))
+        (remaining_in R.remaining input.old) ending (contents_of W.contents out.old)
         (contents_of W.contents out.new)) }
-    ensures place { OnOk result
-        (IsPlacedFor (IsDueOf (lines_for look)) (remaining_in R.remaining input.old) place.new) }
     ensures fault { IfErr result (λ fault. BreaksFor (IsDueOf (lines_for look))
         (remaining_in R.remaining input.old) fault (contents_of W.contents out.old)
         (contents_of W.contents out.new)) }
-    ensures no_place { OnErr result (place.new ≡ None) }
     ensures input_read { OnOk result (IsReadOut (remaining_in R.remaining input.old)
         (remaining_in R.remaining input.new)) }
     ensures same_input { IsSameInput input.old input.new }
@@ -210,12 +149,10 @@ fn run_over<B: TermBank, R: Read, W: Write>(
     ensures read_cause { TellsRead input.new result }
     ensures write_cause { TellsWrite out.new result }
 {
-    *place = None;
     let reading = read_term(alloc, input, bank)?;
     write_due(alloc, bank, &reading, look, out)?;
     out.flush()?;
-    *place = reading.place();
-    Ok(reading.finish())
+    Ok(reading.ending())
 }
 
 /// Writes what is due for what a text came to.

@@ -1,5 +1,5 @@
 -- What faults tell, from one step of a run to the next.
-use Rattle.std.proofs.Common.{◌≡◌, ◌≢◌, [], refl, inl, inr}
+use Rattle.std.proofs.Common.{◌≢◌, [], refl, inl, inr}
 use Rattle.rx_term.specs.Steps.{Grows}
 use Rattle.rx_term.specs.Store.{Store}
 use Rattle.rx_term.proofs.StoreLemmas.{Grows-trans}

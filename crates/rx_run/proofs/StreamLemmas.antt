@@ -2,7 +2,7 @@
 use Rattle.std.proofs.Common.{◌≡◌, ◌≢◌, IfErr, IsErrAnd, Result, Ok, Err, refl, sym, ◌∙◌}
 use Rattle.rx_term.specs.Store.{Store}
 use Rattle.rx_text.specs.Input.{HasRefusedRead, IsReadable}
-use Rattle.rx_text.specs.Output.{HasRefusedWrite, IsWritable}
+use Rattle.rx_text.specs.Output.{HasRefusedWrite}
 use Rattle.rx_text.specs.declared.input.Input.{Input}
 use Rattle.rx_text.specs.declared.output.Output.{Output}
 use Rattle.rx_run.specs.Run.{RanOut, StopsAtOnce, StopsUnwritten, StopsWriting, fault_of_read}

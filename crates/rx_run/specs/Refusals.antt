@@ -12,6 +12,8 @@ use Rattle.rx_run.specs.declared.ending.Named.TheVariants as named
 use Rattle.rx_run.specs.declared.ending.Place.{Place}
 use Rattle.rx_run.specs.declared.ending.Source.{Source}
 use Rattle.rx_run.specs.declared.ending.Source.TheVariants as source
+use Rattle.rx_run.specs.declared.refusal.Ending.{Ending}
+use Rattle.rx_run.specs.declared.refusal.Ending.TheVariants as ending
 use Rattle.rx_run.specs.declared.refusal.Reading.{Reading}
 use Rattle.rx_run.specs.declared.refusal.Reading.TheVariants as reading
 use Rattle.rx_run.specs.declared.refusal.Reason.{Reason}
@@ -56,15 +58,20 @@ abbrev pub reading_due : {T : Type 0} → (T → Due) → Reading T → Due
 reading_due next (reading.Refused r) = refusal_due r
 reading_due next (reading.Good x) = next x
 
--- the place of a refusal
-abbrev pub place_of : {T : Type 0} → Reading T → Option Place
-place_of (reading.Refused r) = place_by r.text r.reason
-place_of (reading.Good x) = None
+-- how a run ends, by what its texts came to
+abbrev pub ending_of : {T : Type 0} → Reading T → Ending
+ending_of (reading.Refused r) = ending.Refused r
+ending_of (reading.Good x) = ending.Done
 
--- how a run ends
-abbrev pub finish_of : {T : Type 0} → Reading T → Finish
-finish_of (reading.Refused r) = finish.Refused
-finish_of (reading.Good x) = finish.Done
+-- the same without the refusal
+abbrev pub finish_of : Ending → Finish
+finish_of ending.Done = finish.Done
+finish_of (ending.Refused r) = finish.Refused
+
+-- the place of the refusal
+abbrev pub place_of : Ending → Option Place
+place_of ending.Done = None
+place_of (ending.Refused r) = place_by r.text r.reason
 
 -- the refusal of a text of a term, by its verdict
 abbrev pub refused_text : Source → term.Verdict → Option Refusal

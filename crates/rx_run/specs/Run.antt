@@ -1,5 +1,6 @@
 -- What a run leaves, by what is due for its texts.
---     EndsFor IsDue texts finish old new      it ended as is due, and wrote what is due
+--     ConcludesFor IsDue texts ending old new it ended as is due, and wrote what is due
+--     EndsFor IsDue texts finish old new      the same, without the refusal
 --     IsPlacedFor IsDue texts place           the place is that of what is due
 --     BreaksFor IsDue texts fault old new     it stopped at a fault, with a front of what is due
 --                                             written
@@ -12,15 +13,31 @@ use Rattle.rx_term.specs.Steps.{Grows}
 use Rattle.rx_term.specs.Store.{Store, cells}
 use Rattle.rx_text.specs.Written.{IsFront}
 use Rattle.rx_run.specs.Bytes.{newlines}
-use Rattle.rx_run.specs.Due.{Due}
+use Rattle.rx_run.specs.Due.{Due, done}
+use Rattle.rx_run.specs.Refusals.{refusal_due}
 use Rattle.rx_run.specs.declared.ending.Finish.{Finish}
 use Rattle.rx_run.specs.declared.ending.Place.{Place}
 use Rattle.rx_run.specs.declared.ending.RunFault.{RunFault}
 use Rattle.rx_run.specs.declared.ending.RunFault.TheVariants.{Memory, Room, Read, Write}
+use Rattle.rx_run.specs.declared.refusal.Ending.{Ending}
+use Rattle.rx_run.specs.declared.refusal.Ending.TheVariants as ending
 use Rattle.rx_run.specs.declared.streams.ReadFault.{ReadFault}
 use Rattle.rx_run.specs.declared.streams.ReadFault.TheVariants as unreadable
 
+-- how a run ended is as is due: all lines, or the line of this refusal
+abbrev pub IsEnding : Due → Ending → Type 0
+IsEnding d ending.Done = d ≡ done d.text
+IsEnding d (ending.Refused r) = d ≡ refusal_due r
+
 -- a run that ended: it ended as is due, and what is due was written
+pub record Concludes (IsDue : Due → Type 0) (ending : Ending) (old new : Option (List ℕ)) : Type 0
+  where
+    pub due : Due
+    pub is_due : IsDue due
+    pub ends : IsEnding due ending
+    pub written : Appends old new due.text
+
+-- the same without the refusal
 pub record Ends (IsDue : Due → Type 0) (finish : Finish) (old new : Option (List ℕ)) : Type 0 where
   pub due : Due
   pub is_due : IsDue due
@@ -66,6 +83,11 @@ abbrev pub Breaks : (Due → Type 0) → RunFault → Option (List ℕ) → Opti
 Breaks IsDue fault old new = (d : Due) → IsDue d → Stops fault d.text old new
 
 -- the same for the texts of a run, where its readers tell them
+abbrev pub ConcludesFor : {T : Type 0} → (T → Due → Type 0) → Option T → Ending
+    → Option (List ℕ) → Option (List ℕ) → Type 0
+ConcludesFor IsDue texts ending old new =
+    IfSome texts (λ known. Concludes (IsDue known) ending old new)
+
 abbrev pub EndsFor : {T : Type 0} → (T → Due → Type 0) → Option T → Finish → Option (List ℕ)
     → Option (List ℕ) → Type 0
 EndsFor IsDue texts finish old new = IfSome texts (λ known. Ends (IsDue known) finish old new)

@@ -2,9 +2,10 @@
 
 ghost use Rattle.std.specs.Prelude.{◌≡◌};
 ghost use Rattle.rx_run.specs.declared.refusal.Reading.TheVariants.{Refused};
-ghost use Rattle.rx_run.specs.Refusals.{finish_of, place_by, place_of};
+ghost use Rattle.rx_run.specs.Refusals.{ending_of, finish_of, place_by, place_of};
 
 use crate::ending::{Finish, Named, Place, Source};
+use std::fmt;
 
 /// Why a text is refused.
 #[derive(Clone, Copy)]
@@ -31,6 +32,24 @@ pub enum Reason {
     Kind,
 }
 
+/// The refusal's name.
+impl fmt::Display for Reason {
+    fn fmt<W: fmt::Write>(&self, f: &mut fmt::Formatter<W>) -> fmt::Result {
+        match *self {
+            Reason::Long => f.write_str("L1"),
+            Reason::Grammar { at: _ } => f.write_str("G"),
+            Reason::Rule { number, at: _ } => write!(f, "S{number}"),
+            Reason::Outside { at: _ } => f.write_str("A"),
+            Reason::TermsRule { number } => write!(f, "T{number}"),
+            Reason::Unknown => f.write_str("P1"),
+            Reason::Annotated => f.write_str("P2"),
+            Reason::Unlisted => f.write_str("T1"),
+            Reason::Count => f.write_str("M1"),
+            Reason::Kind => f.write_str("M2"),
+        }
+    }
+}
+
 /// A text that is refused, and why.
 #[derive(Clone, Copy)]
 pub struct Refusal {
@@ -41,8 +60,8 @@ pub struct Refusal {
 }
 
 impl Refusal {
-    /// Where the text is refused.
-    fn place(self) -> Option<Place>
+    /// Where the text is refused; nothing where the refusal has no place.
+    pub fn place(self) -> Option<Place>
         ensures { result ≡ place_by self.text self.reason }
     {
         let (rule, at) = match self.reason {
@@ -56,6 +75,37 @@ impl Refusal {
             rule,
             at,
         })
+    }
+}
+
+/// How a run ends that met no fault, and why.
+#[derive(Clone, Copy)]
+pub enum Ending {
+    /// All lines were written.
+    Done,
+    /// A text was refused, and its refusal line was written.
+    Refused(Refusal),
+}
+
+impl Ending {
+    /// How the run ends.
+    pub fn finish(self) -> Finish
+        ensures { result ≡ finish_of self }
+    {
+        match self {
+            Ending::Done => Finish::Done,
+            Ending::Refused(_) => Finish::Refused,
+        }
+    }
+
+    /// Where a text is refused; nothing where none is, and where the refusal has no place.
+    pub fn place(self) -> Option<Place>
+        ensures { result ≡ place_of self }
+    {
+        match self {
+            Ending::Done => None,
+            Ending::Refused(refusal) => refusal.place(),
+        }
     }
 }
 
@@ -76,23 +126,13 @@ impl<T> Reading<T> {
         Reading::Refused(Refusal { text, reason })
     }
 
-    /// Where a text is refused.
-    pub fn place(&self) -> Option<Place>
-        ensures { result ≡ place_of self.now }
-    {
-        match self {
-            Reading::Refused(refusal) => refusal.place(),
-            Reading::Good(_) => None,
-        }
-    }
-
     /// How a run ends that meets no fault.
-    pub fn finish(&self) -> Finish
-        ensures { result ≡ finish_of self.now }
+    pub fn ending(&self) -> Ending
+        ensures { result ≡ ending_of self.now }
     {
         match self {
-            Reading::Refused(_) => Finish::Refused,
-            Reading::Good(_) => Finish::Done,
+            Reading::Refused(refusal) => Ending::Refused(*refusal),
+            Reading::Good(_) => Ending::Done,
         }
     }
 }

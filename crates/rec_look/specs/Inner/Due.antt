@@ -1,12 +1,8 @@
 -- What is due for the texts that were read.
-use Rattle.std.specs.Prelude.{ℕ, ◌≡◌, ◌⊎◌, List, Option, Some, Result, Ok, Err}
-use Rattle.std.specs.Io.KnownBytes.{Keeps}
+use Rattle.std.specs.Prelude.{ℕ, List, Some}
 use Rattle.rx_term.specs.Store.{Store}
 use Rattle.rx_run.specs.Due.{Due, done}
 use Rattle.rx_run.specs.Refusals.{reading_due}
-use Rattle.rx_run.specs.declared.ending.Finish.{Finish}
-use Rattle.rx_run.specs.declared.ending.RunFault.{RunFault}
-use Rattle.rx_run.specs.declared.ending.RunFault.TheVariants.{Write}
 use Rattle.rx_run.specs.declared.refusal.Reading.{Reading}
 use Rattle.rec_sorts.specs.SpecRules.{Verdict}
 use Rattle.rec_run.specs.GivenTerms.{given_by}
@@ -33,10 +29,3 @@ IsTraceReadAs w source v bytes r = (shown : Shown) (n : ℕ)
 abbrev pub IsTraceReadFrom : Store → Texts → Reading Job → Type 0
 IsTraceReadFrom w texts r = (shown : Shown) (n : ℕ)
     → IsTraceDueFor shown n texts (trace_due w shown n r)
-
--- what a run answers behind what was written: the fault that stopped it, or, after a flush, how it
--- ends or that the writer refused to flush
-abbrev pub EndsBehind : Result (Unit {0}) RunFault → Finish → Option (List ℕ) → Option (List ℕ)
-    → Result Finish RunFault → Type 0
-EndsBehind (Ok u) finish old new r = Keeps old new × ((r ≡ Ok finish) ⊎ (r ≡ Err Write))
-EndsBehind (Err f) finish old new r = (r ≡ Err f) × (new ≡ old)

@@ -10,8 +10,8 @@ use Rattle.rec_engine.specs.declared.cells.EngineFault.{EngineFault}
 use Rattle.rec_engine.specs.declared.cells.EngineFault.TheVariants as engine
 
 -- a text was written, and its line ends were counted
-pub record Prints {W : Type 0} (contents : W → Option (List ℕ)) (old new : Output W) (lines more : ℕ)
-    (text : List ℕ) : Type 0 where
+pub record Prints {W : Type 0} (contents : W → Option (List ℕ)) (old new : Output W)
+    (lines more : ℕ) (text : List ℕ) : Type 0 where
   pub written : Writes contents old new text
   pub counted : more ≡ lines + newlines text
 
@@ -22,6 +22,6 @@ Breaks contents old new lines text fault =
     StopsAfter lines fault text (contents_of contents old) (contents_of contents new)
 
 -- the run's fault where an engine gave up after so many lines
-abbrev pub stopped_after : EngineFault → ℕ → RunFault
-stopped_after engine.Memory lines = run.Memory lines
-stopped_after engine.Room lines = run.Room lines
+abbrev pub fault_after : EngineFault → ℕ → RunFault
+fault_after engine.Memory lines = run.Memory lines
+fault_after engine.Room lines = run.Room lines

@@ -3,7 +3,7 @@ use Rattle.std.specs.Prelude.{ℕ, zero, suc, ◌-◌, ◌≡◌, ◌≤◌, ◌
 use Rattle.std.specs.Prelude.{Some, None, Vec, codes, decimal, drop, flat_map, if◌then◌else◌, length, map}
 use Rattle.std.specs.Option.{option_to_list}
 use Rattle.std.specs.declared.alloc.Global.{Global}
-use Rattle.rx_term.specs.Tree.{Tree, annotations, none}
+use Rattle.rx_term.specs.Tree.{Tree, annotations}
 use Rattle.rx_term.specs.Store.{Store, tree_at}
 use Rattle.rx_text.specs.Canon.{canon}
 use Rattle.rx_text.specs.declared.output.Output.{Output}
@@ -18,8 +18,7 @@ use Rattle.rec_engine.specs.declared.engine.Outcome.{Outcome}
 use Rattle.rec_engine.specs.declared.engine.Outcome.TheVariants.{Value, Limit}
 use Rattle.rx_run.specs.Due.{steps_text}
 use Rattle.rec_run.specs.GivenTerms.{item_at}
-use Rattle.rec_run.specs.Output.{Task, given_task, notes_text}
-use Rattle.rec_run.specs.Reading.{term_at}
+use Rattle.rec_run.specs.Output.{given_task, notes_text}
 use Rattle.rec_trace.specs.Lines.{joined, whole_text}
 use Rattle.rec_trace.specs.States.{firing_then}
 use Rattle.rec_trace.specs.Trace.{Firing, Trace, Traced}
@@ -29,12 +28,12 @@ use Rattle.rec_look.specs.Inner.Pages.{Prints}
 use Rattle.rec_look.specs.Picks.{Picks, back_count, front_lines, left_out_count, picks_by, rest_lines, shown_lines}
 use Rattle.rec_trace.specs.Lines.{rule_spot}
 use Rattle.rec_look.specs.Traces.{Shown, picked_lines, shown_by, task_text}
-use Rattle.rec_look.specs.declared.trace.given.GivenTerms.{GivenTerms}
-use Rattle.rec_look.specs.declared.trace.kept.Kept.{Kept}
-use Rattle.rec_look.specs.declared.trace.kept.Place.{Place}
-use Rattle.rec_look.specs.declared.trace.kept.Place.TheVariants.{Front, Behind, Nowhere}
-use Rattle.rec_look.specs.declared.trace.options.TraceOptions.{TraceOptions}
-use Rattle.rec_look.specs.declared.trace.telling.Telling.{Telling}
+use Rattle.rec_look.specs.declared.given.GivenTerms.{GivenTerms}
+use Rattle.rec_look.specs.declared.kept.Kept.{Kept}
+use Rattle.rec_look.specs.declared.kept.Place.{Place}
+use Rattle.rec_look.specs.declared.kept.Place.TheVariants.{Front, Behind, Nowhere}
+use Rattle.rec_look.specs.declared.options.TraceOptions.{TraceOptions}
+use Rattle.rec_look.specs.declared.telling.Telling.{Telling}
 
 -- it has the spots of a specification's rules, by the text of that
 abbrev pub IsTelling : List ℕ → Spec → Telling → Type 0
@@ -139,8 +138,8 @@ pub record Tells {W : Type 0} (contents : W → Option (List ℕ)) (source : Lis
 
 -- a rule fired, and was told
 pub record HasTold {W : Type 0} (contents : W → Option (List ℕ)) (y : Spec) (w w' : Store)
-    (old new : Tracer) (telling : Telling) (kept kept' : Kept) (out out' : Output W) (lines more : ℕ)
-    : Type 0 where
+    (old new : Tracer) (telling : Telling) (kept kept' : Kept) (out out' : Output W)
+    (lines more : ℕ) : Type 0 where
   pub firing : Firing
   pub next : rest_of y w old ≡ firing_then firing (rest_of y w' new)
   pub stands : Stands y w' new
@@ -149,8 +148,8 @@ pub record HasTold {W : Type 0} (contents : W → Option (List ℕ)) (y : Spec) 
       → Tells contents source telling.options before firing kept' out out' lines more
 
 -- a turn of a tracer was told; or nothing more fires, and this is what the trace comes to
-abbrev pub IsToldTurn : {W : Type 0} → (W → Option (List ℕ)) → Spec → Store → Store → Tracer → Tracer
-    → Telling → Kept → Kept → Output W → Output W → ℕ → ℕ → Option Outcome → Type 0
+abbrev pub IsToldTurn : {W : Type 0} → (W → Option (List ℕ)) → Spec → Store → Store → Tracer
+    → Tracer → Telling → Kept → Kept → Output W → Output W → ℕ → ℕ → Option Outcome → Type 0
 IsToldTurn contents y w w' old new telling kept kept' out out' lines more None =
     HasTold contents y w w' old new telling kept kept' out out' lines more
 IsToldTurn contents y w w' old new telling kept kept' out out' lines more (Some o) = (out' ≡ out)

@@ -1,8 +1,8 @@
 //! Whole runs over a bank, which is handed back.
 
-ghost use Rattle.std.specs.Prelude.{◌≡◌, ℕ, None, IfErr, IfOk, OnErr, OnOk, Some, option_map};
+ghost use Rattle.std.specs.Prelude.{◌≡◌, ℕ, IfErr, IfOk, OnOk, Some, option_map};
 ghost use Rattle.std.specs.Option.{option_copied_mut};
-ghost use Rattle.rx_run.specs.Run.{BreaksFor, EndsFor, IsPlacedFor, IsReadOut};
+ghost use Rattle.rx_run.specs.Run.{BreaksFor, ConcludesFor, IsReadOut};
 ghost use Rattle.rec_run.specs.Depth.{unbounded};
 ghost use Rattle.rec_run.specs.GivenTerms.{OnGoodSpec, OnRefusedSpec};
 ghost use Rattle.rec_run.specs.Output.{bare};
@@ -10,21 +10,19 @@ ghost use Rattle.rec_run.specs.Run.{
   HasRoom,
   IsDueFor,
   Leads,
-  RoomExhausts,
   RoomIn,
   Stays,
   both_texts,
   terms_text,
 };
 
-use crate::depth::unbounded;
-use crate::observer::Observer;
+use crate::depth::unbounded_end;
+use crate::observer::nobody;
 use crate::options::{LimitLines, RunOptions, RunSettings};
 use crate::spec::alone::alone_over;
 use crate::spec::beside::beside_over;
 use crate::spec::due::EndedWithin;
-use rec_engine::{Unwatched, Watch};
-use rx_run::{Finish, Place, RunFault};
+use rx_run::{Ending, RunFault};
 use rx_term::{Term, TermBank};
 use rx_text::{Input, Output};
 use std::alloc::Global;
@@ -34,7 +32,7 @@ use std::io::{Read, Write};
 #[derive(Drop)]
 pub struct Ended<B> {
     /// How it ended.
-    pub end: Result<Finish, RunFault>,
+    pub end: Result<Ending, RunFault>,
     /// The bank.
     pub bank: B,
     /// What the last evaluation needed of the bank besides what is protected; nothing where none
@@ -44,14 +42,14 @@ pub struct Ended<B> {
 
 impl<B> EndedWithin<B> {
     /// The same as it is told where nothing was said of how many calls may wait.
-    fn told(self) -> Ended<B>
+    fn into_ended(self) -> Ended<B>
         ensures end { result.end ≡ unbounded self.end }
         ensures bank { result.bank ≡ self.bank }
         ensures needed { result.needed ≡ self.needed }
     {
         let EndedWithin { end, bank, needed } = self;
         Ended {
-            end: unbounded(end),
+            end: unbounded_end(end),
             bank,
             needed,
         }
@@ -60,7 +58,7 @@ impl<B> EndedWithin<B> {
 
 impl<B: Drop> Ended<B> {
     /// How the run ended: the rest is let go.
-    pub fn into_end(self) -> Result<Finish, RunFault>
+    pub fn into_end(self) -> Result<Ending, RunFault>
         ensures { result ≡ self.end }
     {
         let Ended { end, bank, needed } = self;
@@ -70,7 +68,7 @@ impl<B: Drop> Ended<B> {
     }
 }
 
-/// The same over a bank, which it hands back; the bank's limit is that of the options. Given terms
+/// A run over a bank, which it hands back; the bank's limit is that of the options. Given terms
 /// are protected once there, and stay so. A refused specification leaves the bank as it is. Want of
 /// cells comes where no cell is left, and where either nothing was given back (the text of the
 /// terms is read) or all that is held is protected or needed.
@@ -81,16 +79,13 @@ pub fn run_in<B: TermBank, R: Read, T: Read, W: Write>(
     terms: Option<&mut T>,
     out: &mut W,
     options: RunOptions,
-    place: &mut Option<Place>,
 ) -> Ended<B>
     requires unrooted { (t : ℕ) → (B.store bank).roots t ≡ 0 }
     requires limit { (B.store bank).cap ≡ options.cells }
-    ensures output { IfOk result.end (λ finish. EndsFor (IsDueFor
+    ensures ends { IfOk result.end (λ ending. ConcludesFor (IsDueFor
         (bare options.count) options.steps)
         (both_texts (R.remaining spec.old) (terms_text T.remaining terms.entry))
-        finish (W.contents out.old) (W.contents out.new)) }
-    ensures place { OnOk result.end (IsPlacedFor (IsDueFor (bare options.count) options.steps)
-        (both_texts (R.remaining spec.old) (terms_text T.remaining terms.entry)) place.new) }
+        ending (W.contents out.old) (W.contents out.new)) }
     ensures fault { IfErr result.end (λ fault. BreaksFor (IsDueFor
         (bare options.count) options.steps)
         (both_texts (R.remaining spec.old) (terms_text T.remaining terms.entry))
@@ -100,7 +95,6 @@ pub fn run_in<B: TermBank, R: Read, T: Read, W: Write>(
     ensures cap { (B.store result.bank).cap ≡ (B.store bank).cap }
     ensures unused { OnRefusedSpec (R.remaining spec.old) (result.bank ≡ bank) }
     ensures cells { OnRefusedSpec (R.remaining spec.old) (IfErr result.end HasRoom) }
-    ensures no_place { OnErr result.end (place.new ≡ None) }
     ensures spec_read { OnOk result.end
         (IsReadOut (R.remaining spec.old) (R.remaining spec.new)) }
     ensures terms_read { OnOk result.end (OnGoodSpec (R.remaining spec.old)
@@ -110,61 +104,19 @@ pub fn run_in<B: TermBank, R: Read, T: Read, W: Write>(
         (Stays (λ f. f.0.now) terms.exit (option_copied_mut terms.entry)) }
 {
     match terms {
-        None => run_alone_in(alloc, bank, spec, out, options, place),
-        Some(terms) => run_beside_in(alloc, bank, spec, terms, out, options, place),
+        None => {
+            let mut spec = Input::new(spec);
+            let mut out = Output::new(out);
+            let settings = RunSettings {
+                options,
+                limits: LimitLines::Bare,
+                depth: None,
+            };
+            let mut observer = nobody();
+            alone_over(alloc, bank, &mut spec, &mut out, settings, &mut observer).into_ended()
+        }
+        Some(terms) => run_beside_in(alloc, bank, spec, terms, out, options),
     }
-}
-
-/// A run over a bank without given terms.
-fn run_alone_in<B: TermBank, R: Read, W: Write>(
-    alloc: Global,
-    bank: B,
-    spec: &mut R,
-    out: &mut W,
-    options: RunOptions,
-    place: &mut Option<Place>,
-) -> Ended<B>
-    requires unrooted { (t : ℕ) → (B.store bank).roots t ≡ 0 }
-    requires limit { (B.store bank).cap ≡ options.cells }
-    ensures output { IfOk result.end (λ finish. EndsFor (IsDueFor
-        (bare options.count) options.steps)
-        (both_texts (R.remaining spec.old) (Some None)) finish (W.contents out.old)
-        (W.contents out.new)) }
-    ensures place { OnOk result.end (IsPlacedFor (IsDueFor (bare options.count) options.steps)
-        (both_texts (R.remaining spec.old) (Some None)) place.new) }
-    ensures fault { IfErr result.end (λ fault. BreaksFor (IsDueFor
-        (bare options.count) options.steps)
-        (both_texts (R.remaining spec.old) (Some None)) fault (W.contents out.old)
-        (W.contents out.new)) }
-    ensures room { IfErr result.end (RoomExhausts (B.store result.bank) result.needed.items) }
-    ensures cap { (B.store result.bank).cap ≡ (B.store bank).cap }
-    ensures unused { OnRefusedSpec (R.remaining spec.old) (result.bank ≡ bank) }
-    ensures cells { OnRefusedSpec (R.remaining spec.old) (IfErr result.end HasRoom) }
-    ensures no_place { OnErr result.end (place.new ≡ None) }
-    ensures spec_read { OnOk result.end
-        (IsReadOut (R.remaining spec.old) (R.remaining spec.new)) }
-{
-    let mut spec = Input::new(spec);
-    let mut output = Output::new(out);
-    let settings = RunSettings {
-        options,
-        limits: LimitLines::Bare,
-        depth: None,
-    };
-    let mut observer = Observer {
-        watch: Unwatched,
-        profiler: Unwatched,
-    };
-    alone_over(
-        alloc,
-        bank,
-        &mut spec,
-        &mut output,
-        settings,
-        place,
-        &mut observer,
-    )
-    .told()
 }
 
 /// A run over a bank with given terms.
@@ -175,17 +127,13 @@ fn run_beside_in<B: TermBank, R: Read, T: Read, W: Write>(
     terms: &mut T,
     out: &mut W,
     options: RunOptions,
-    place: &mut Option<Place>,
 ) -> Ended<B>
     requires unrooted { (t : ℕ) → (B.store bank).roots t ≡ 0 }
     requires limit { (B.store bank).cap ≡ options.cells }
-    ensures output { IfOk result.end (λ finish. EndsFor (IsDueFor
+    ensures ends { IfOk result.end (λ ending. ConcludesFor (IsDueFor
         (bare options.count) options.steps)
         (both_texts (R.remaining spec.old) (option_map (λ b. Some b) (T.remaining terms.old)))
-        finish (W.contents out.old) (W.contents out.new)) }
-    ensures place { OnOk result.end (IsPlacedFor (IsDueFor (bare options.count) options.steps)
-        (both_texts (R.remaining spec.old) (option_map (λ b. Some b) (T.remaining terms.old)))
-        place.new) }
+        ending (W.contents out.old) (W.contents out.new)) }
     ensures fault { IfErr result.end (λ fault. BreaksFor (IsDueFor
         (bare options.count) options.steps)
         (both_texts (R.remaining spec.old) (option_map (λ b. Some b) (T.remaining terms.old)))
@@ -195,7 +143,6 @@ fn run_beside_in<B: TermBank, R: Read, T: Read, W: Write>(
     ensures cap { (B.store result.bank).cap ≡ (B.store bank).cap }
     ensures unused { OnRefusedSpec (R.remaining spec.old) (result.bank ≡ bank) }
     ensures cells { OnRefusedSpec (R.remaining spec.old) (IfErr result.end HasRoom) }
-    ensures no_place { OnErr result.end (place.new ≡ None) }
     ensures spec_read { OnOk result.end
         (IsReadOut (R.remaining spec.old) (R.remaining spec.new)) }
     ensures terms_read { OnOk result.end (OnGoodSpec (R.remaining spec.old)
@@ -210,10 +157,7 @@ fn run_beside_in<B: TermBank, R: Read, T: Read, W: Write>(
         limits: LimitLines::Bare,
         depth: None,
     };
-    let mut observer = Observer {
-        watch: Unwatched,
-        profiler: Unwatched,
-    };
+    let mut observer = nobody();
     beside_over(
         alloc,
         bank,
@@ -221,8 +165,7 @@ fn run_beside_in<B: TermBank, R: Read, T: Read, W: Write>(
         &mut terms,
         &mut output,
         settings,
-        place,
         &mut observer,
     )
-    .told()
+    .into_ended()
 }

@@ -1,96 +1,49 @@
 //! Runs with given terms.
+#![tactic(auto, using(crate::proofs::DepthLemmas::ok_told, crate::proofs::DepthLemmas::on_told))]
 
-ghost use Rattle.std.specs.Prelude.{◌≡◌, ℕ, None, IfErr, IfOk, OnErr, OnOk, Some, option_map};
+ghost use Rattle.std.specs.Prelude.{◌≡◌, ℕ, None, IfErr, IfOk, OnOk, Some, option_map};
 ghost use Rattle.rx_text.specs.Input.{IsReadable, IsSameInput, remaining_in};
 ghost use Rattle.rx_text.specs.Output.{IsSameOutput, IsWritable, contents_of};
-ghost use Rattle.rx_run.specs.Run.{BreaksFor, EndsFor, IsPlacedFor, IsReadOut};
+ghost use Rattle.rx_run.specs.Run.{BreaksFor, ConcludesFor, IsReadOut};
 ghost use Rattle.rx_run.specs.Streams.{TellsWrite};
 ghost use Rattle.rec_run.specs.Depth.{HasRoomWithin, IsBounded, unbounded};
 ghost use Rattle.rec_run.specs.GivenTerms.{OnGoodSpec, OnRefusedSpec};
-ghost use Rattle.rec_run.specs.Output.{shown_by, shown_of};
-ghost use Rattle.rec_run.specs.Run.{HasRoom, IsDueFor, RoomIn, TellsReads, both_texts};
+ghost use Rattle.rec_run.specs.Output.{shown_of};
+ghost use Rattle.rec_run.specs.Run.{IsDueFor, RoomIn, TellsReads, both_texts};
 
-use crate::depth::{RunDepthFault, unbounded};
+use crate::depth::RunDepthFault;
 use crate::observer::{Observer, Profiler};
-use crate::options::{LimitLines, RunOptions, RunSettings};
+use crate::options::RunSettings;
 use crate::spec::due::{EndedWithin, answer};
 use crate::spec::reading::read_both_from;
-use rec_engine::{Unwatched, Watch};
-use rx_run::{Finish, Place, RunFault, empty_bank};
+use rec_engine::Watch;
+use rx_run::{Ending, empty_bank};
 use rx_term::TermBank;
 use rx_text::{Input, Output};
 use std::alloc::Global;
 use std::io::{Read, Write};
 
 /// A run with given terms.
-pub(crate) fn run_beside<R: Read, T: Read, W: Write>(
-    alloc: Global,
-    spec: &mut R,
-    terms: &mut T,
-    out: &mut W,
-    options: RunOptions,
-    limits: LimitLines,
-    place: &mut Option<Place>,
-) -> Result<Finish, RunFault>
-    ensures output { IfOk result (λ finish. EndsFor (IsDueFor
-        (shown_by options.count limits) options.steps)
-        (both_texts (R.remaining spec.old) (option_map (λ b. Some b) (T.remaining terms.old)))
-        finish (W.contents out.old) (W.contents out.new)) }
-    ensures place { OnOk result (IsPlacedFor (IsDueFor
-        (shown_by options.count limits) options.steps)
-        (both_texts (R.remaining spec.old) (option_map (λ b. Some b) (T.remaining terms.old)))
-        place.new) }
-    ensures fault { IfErr result (λ fault. BreaksFor (IsDueFor
-        (shown_by options.count limits) options.steps)
-        (both_texts (R.remaining spec.old) (option_map (λ b. Some b) (T.remaining terms.old)))
-        fault (W.contents out.old) (W.contents out.new)) }
-    ensures cells { OnRefusedSpec (R.remaining spec.old) (IfErr result HasRoom) }
-    ensures no_place { OnErr result (place.new ≡ None) }
-    ensures spec_read { OnOk result (IsReadOut (R.remaining spec.old) (R.remaining spec.new)) }
-    ensures terms_read { OnOk result (OnGoodSpec (R.remaining spec.old)
-        (IsReadOut (T.remaining terms.old) (T.remaining terms.new))) }
-    ensures unread { OnRefusedSpec (R.remaining spec.old) (terms.new ≡ terms.old) }
-{
-    let settings = RunSettings {
-        options,
-        limits,
-        depth: None,
-    };
-    let mut observer = Observer {
-        watch: Unwatched,
-        profiler: Unwatched,
-    };
-    unbounded(run_beside_within(alloc, spec, terms, out, settings, place, &mut observer))
-}
-
-/// The same where it may be said how many calls may wait.
-pub(crate) fn run_beside_within<R: Read, T: Read, W: Write, V: Watch, P: Profiler>(
+pub(crate) fn run_beside<R: Read, T: Read, W: Write, V: Watch, P: Profiler>(
     alloc: Global,
     spec: &mut R,
     terms: &mut T,
     out: &mut W,
     settings: RunSettings,
-    place: &mut Option<Place>,
     observer: &mut Observer<V, P>,
-) -> Result<Finish, RunDepthFault>
-    ensures output { IfOk (unbounded result) (λ finish. EndsFor (IsDueFor
+) -> Result<Ending, RunDepthFault>
+    ensures ends { IfOk result (λ ending. ConcludesFor (IsDueFor
         (shown_of settings) settings.options.steps)
         (both_texts (R.remaining spec.old) (option_map (λ b. Some b) (T.remaining terms.old)))
-        finish (W.contents out.old) (W.contents out.new)) }
-    ensures place { OnOk (unbounded result) (IsPlacedFor (IsDueFor
-        (shown_of settings) settings.options.steps)
-        (both_texts (R.remaining spec.old) (option_map (λ b. Some b) (T.remaining terms.old)))
-        place.new) }
+        ending (W.contents out.old) (W.contents out.new)) }
     ensures fault { IfErr (unbounded result) (λ fault. BreaksFor (IsDueFor
         (shown_of settings) settings.options.steps)
         (both_texts (R.remaining spec.old) (option_map (λ b. Some b) (T.remaining terms.old)))
         fault (W.contents out.old) (W.contents out.new)) }
     ensures cells { OnRefusedSpec (R.remaining spec.old) (IfErr result HasRoomWithin) }
     ensures bounded { IfErr result (IsBounded settings.depth) }
-    ensures no_place { OnErr (unbounded result) (place.new ≡ None) }
-    ensures spec_read { OnOk (unbounded result)
-        (IsReadOut (R.remaining spec.old) (R.remaining spec.new)) }
-    ensures terms_read { OnOk (unbounded result) (OnGoodSpec (R.remaining spec.old)
+    ensures spec_read { OnOk result (IsReadOut (R.remaining spec.old) (R.remaining spec.new)) }
+    ensures terms_read { OnOk result (OnGoodSpec (R.remaining spec.old)
         (IsReadOut (T.remaining terms.old) (T.remaining terms.new))) }
     ensures unread { OnRefusedSpec (R.remaining spec.old) (terms.new ≡ terms.old) }
 {
@@ -103,7 +56,6 @@ pub(crate) fn run_beside_within<R: Read, T: Read, W: Write, V: Watch, P: Profile
         &mut terms,
         &mut output,
         settings,
-        place,
         observer,
     )
 }
@@ -115,22 +67,16 @@ fn beside_owned<R: Read, T: Read, W: Write, V: Watch, P: Profiler>(
     terms: &mut Input<'_, T>,
     out: &mut Output<'_, W>,
     settings: RunSettings,
-    place: &mut Option<Place>,
     observer: &mut Observer<V, P>,
-) -> Result<Finish, RunDepthFault>
+) -> Result<Ending, RunDepthFault>
     requires readable { IsReadable spec.old }
     requires terms_readable { IsReadable terms.old }
     requires writable { IsWritable out.old }
-    ensures output { IfOk (unbounded result) (λ finish. EndsFor (IsDueFor
+    ensures ends { IfOk result (λ ending. ConcludesFor (IsDueFor
         (shown_of settings) settings.options.steps)
         (both_texts (remaining_in R.remaining spec.old) (option_map (λ b. Some b)
         (remaining_in T.remaining terms.old)))
-        finish (contents_of W.contents out.old) (contents_of W.contents out.new)) }
-    ensures place { OnOk (unbounded result) (IsPlacedFor (IsDueFor
-        (shown_of settings) settings.options.steps)
-        (both_texts (remaining_in R.remaining spec.old) (option_map (λ b. Some b)
-        (remaining_in T.remaining terms.old)))
-        place.new) }
+        ending (contents_of W.contents out.old) (contents_of W.contents out.new)) }
     ensures fault { IfErr (unbounded result) (λ fault. BreaksFor (IsDueFor
         (shown_of settings) settings.options.steps)
         (both_texts (remaining_in R.remaining spec.old) (option_map (λ b. Some b)
@@ -139,10 +85,9 @@ fn beside_owned<R: Read, T: Read, W: Write, V: Watch, P: Profiler>(
     ensures cells { OnRefusedSpec (remaining_in R.remaining spec.old)
         (IfErr result HasRoomWithin) }
     ensures bounded { IfErr result (IsBounded settings.depth) }
-    ensures no_place { OnErr (unbounded result) (place.new ≡ None) }
-    ensures spec_read { OnOk (unbounded result) (IsReadOut (remaining_in R.remaining spec.old)
+    ensures spec_read { OnOk result (IsReadOut (remaining_in R.remaining spec.old)
         (remaining_in R.remaining spec.new)) }
-    ensures terms_read { OnOk (unbounded result) (OnGoodSpec (remaining_in R.remaining spec.old)
+    ensures terms_read { OnOk result (OnGoodSpec (remaining_in R.remaining spec.old)
         (IsReadOut (remaining_in T.remaining terms.old) (remaining_in T.remaining terms.new))) }
     ensures unread { OnRefusedSpec (remaining_in R.remaining spec.old) (terms.new ≡ terms.old) }
     ensures same { IsSameInput spec.old spec.new }
@@ -151,11 +96,8 @@ fn beside_owned<R: Read, T: Read, W: Write, V: Watch, P: Profiler>(
     ensures read_cause { TellsReads spec.new terms.new (unbounded result) }
     ensures write_cause { TellsWrite out.new (unbounded result) }
 {
-    *place = None;
     match empty_bank(alloc, settings.options.cells) {
-        Ok(bank) => beside_over(
-            alloc, bank, spec, terms, out, settings, place, observer,
-        ).into_end(),
+        Ok(bank) => beside_over(alloc, bank, spec, terms, out, settings, observer).into_end(),
         Err(fault) => Err(RunDepthFault::Run(fault)),
     }
 }
@@ -168,7 +110,6 @@ pub(crate) fn beside_over<B: TermBank, R: Read, T: Read, W: Write, V: Watch, P: 
     terms: &mut Input<'_, T>,
     out: &mut Output<'_, W>,
     settings: RunSettings,
-    place: &mut Option<Place>,
     observer: &mut Observer<V, P>,
 ) -> EndedWithin<B>
     requires unrooted { (t : ℕ) → (B.store bank).roots t ≡ 0 }
@@ -176,16 +117,11 @@ pub(crate) fn beside_over<B: TermBank, R: Read, T: Read, W: Write, V: Watch, P: 
     requires readable { IsReadable spec.old }
     requires terms_readable { IsReadable terms.old }
     requires writable { IsWritable out.old }
-    ensures output { IfOk (unbounded result.end) (λ finish. EndsFor (IsDueFor
+    ensures ends { IfOk (unbounded result.end) (λ ending. ConcludesFor (IsDueFor
         (shown_of settings) settings.options.steps)
         (both_texts (remaining_in R.remaining spec.old) (option_map (λ b. Some b)
         (remaining_in T.remaining terms.old)))
-        finish (contents_of W.contents out.old) (contents_of W.contents out.new)) }
-    ensures place { OnOk (unbounded result.end) (IsPlacedFor (IsDueFor
-        (shown_of settings) settings.options.steps)
-        (both_texts (remaining_in R.remaining spec.old) (option_map (λ b. Some b)
-        (remaining_in T.remaining terms.old)))
-        place.new) }
+        ending (contents_of W.contents out.old) (contents_of W.contents out.new)) }
     ensures fault { IfErr (unbounded result.end) (λ fault. BreaksFor (IsDueFor
         (shown_of settings) settings.options.steps)
         (both_texts (remaining_in R.remaining spec.old) (option_map (λ b. Some b)
@@ -198,7 +134,6 @@ pub(crate) fn beside_over<B: TermBank, R: Read, T: Read, W: Write, V: Watch, P: 
     ensures cells { OnRefusedSpec (remaining_in R.remaining spec.old)
         (IfErr result.end HasRoomWithin) }
     ensures bounded { IfErr result.end (IsBounded settings.depth) }
-    ensures no_place { OnErr (unbounded result.end) (place.new ≡ None) }
     ensures spec_read { OnOk (unbounded result.end)
         (IsReadOut (remaining_in R.remaining spec.old) (remaining_in R.remaining spec.new)) }
     ensures terms_read { OnOk (unbounded result.end) (OnGoodSpec (remaining_in R.remaining spec.old)
@@ -210,9 +145,8 @@ pub(crate) fn beside_over<B: TermBank, R: Read, T: Read, W: Write, V: Watch, P: 
     ensures read_cause { TellsReads spec.new terms.new (unbounded result.end) }
     ensures write_cause { TellsWrite out.new (unbounded result.end) }
 {
-    *place = None;
     match read_both_from(alloc, spec, terms, &mut bank) {
-        Ok(reading) => answer(alloc, bank, reading, out, settings, place, observer),
+        Ok(reading) => answer(alloc, bank, reading, out, settings, observer),
         Err(fault) => EndedWithin {
             end: Err(RunDepthFault::Run(fault)),
             bank,

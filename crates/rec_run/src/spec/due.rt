@@ -1,8 +1,8 @@
 //! What is due for the texts that were read.
 
-ghost use Rattle.std.specs.Prelude.{◌≡◌, ◌≢◌, ℕ, None, IfErr, IfOk, OnErr, OnOk};
+ghost use Rattle.std.specs.Prelude.{◌≡◌, ◌≢◌, ℕ, IfErr, IfOk, OnOk};
 ghost use Rattle.rx_text.specs.Output.{IsSameOutput, IsWritable, Writes, contents_of};
-ghost use Rattle.rx_run.specs.Refusals.{finish_of, place_of, refusal_due};
+ghost use Rattle.rx_run.specs.Refusals.{ending_of, refusal_due};
 ghost use Rattle.rx_run.specs.Run.{Stops};
 ghost use Rattle.rx_run.specs.Streams.{TellsWrite};
 ghost use Rattle.rec_run.specs.Depth.{EndsBehind, HasRoomWithin, IsBounded, unbounded};
@@ -16,7 +16,7 @@ use crate::options::RunSettings;
 use crate::spec::evaluated::{Left, write_evaluated};
 use crate::spec::reading::Job;
 use rec_engine::Watch;
-use rx_run::{Finish, Place, Reading, Refusal, RunFault, write_refusal_to};
+use rx_run::{Ending, Reading, Refusal, RunFault, write_refusal_to};
 use rx_term::{Term, TermBank};
 use rx_text::{Output, RefusedWrite};
 use std::alloc::Global;
@@ -26,7 +26,7 @@ use std::io::Write;
 #[derive(Drop)]
 pub(crate) struct EndedWithin<B> {
     /// How it ended.
-    pub(crate) end: Result<Finish, RunDepthFault>,
+    pub(crate) end: Result<Ending, RunDepthFault>,
     /// The bank.
     pub(crate) bank: B,
     /// What the last evaluation needed of the bank besides what is protected; nothing where none
@@ -36,7 +36,7 @@ pub(crate) struct EndedWithin<B> {
 
 impl<B: Drop> EndedWithin<B> {
     /// How the run ended: the rest is let go.
-    pub(crate) fn into_end(self) -> Result<Finish, RunDepthFault>
+    pub(crate) fn into_end(self) -> Result<Ending, RunDepthFault>
         ensures { result ≡ self.end }
     {
         let EndedWithin { end, bank, needed } = self;
@@ -46,25 +46,21 @@ impl<B: Drop> EndedWithin<B> {
     }
 }
 
-/// Writes what is due for the texts that were read, and flushes: how the run ends, and the place of
-/// the refusal that was written.
+/// Writes what is due for the texts that were read, and flushes.
 pub(crate) fn answer<B: TermBank, W: Write, V: Watch, P: Profiler>(
     alloc: Global,
     bank: B,
     reading: Reading<Job>,
     out: &mut Output<'_, W>,
     settings: RunSettings,
-    place: &mut Option<Place>,
     observer: &mut Observer<V, P>,
 ) -> EndedWithin<B>
     requires unrooted { (t : ℕ) → (B.store bank).roots t ≡ 0 }
     requires ready { IsReady (B.store bank) reading }
-    requires no_place { place.old ≡ None }
     requires open { IsWritable out.old }
-    ensures ends { IfOk (unbounded result.end) (λ finish. finish ≡ finish_of reading) }
+    ensures ends { IfOk (unbounded result.end) (λ ending. ending ≡ ending_of reading) }
     ensures ok { OnOk (unbounded result.end) (Writes W.contents out.old out.new
         (run_due (B.store bank) (shown_of settings) settings.options.steps reading).text) }
-    ensures place { OnOk (unbounded result.end) (place.new ≡ place_of reading) }
     ensures err { IfErr (unbounded result.end)
         (λ fault. Stops fault (run_due (B.store bank)
         (shown_of settings) settings.options.steps reading).text
@@ -75,39 +71,32 @@ pub(crate) fn answer<B: TermBank, W: Write, V: Watch, P: Profiler>(
     ensures unused { IsRefused reading → result.bank ≡ bank }
     ensures cells { IsRefused reading → IfErr result.end HasRoomWithin }
     ensures bounded { IfErr result.end (IsBounded settings.depth) }
-    ensures no_place { OnErr (unbounded result.end) (place.new ≡ None) }
     ensures same_output { IsSameOutput out.old out.new }
     ensures cause { TellsWrite out.new (unbounded result.end) }
     ensures no_reader { IfErr (unbounded result.end) (λ fault. fault ≢ RunFault.Read) }
 {
-    let finish = reading.finish();
-    let refused_at = reading.place();
+    let ending = reading.ending();
     let Left {
         written,
         bank,
         needed,
     } = write_due(alloc, bank, reading, out, settings, observer);
     EndedWithin {
-        end: end_run(written, finish, refused_at, out, place),
+        end: end_run(written, ending, out),
         bank,
         needed,
     }
 }
 
-/// Flushes where all was written: how the run ends, and the place of the refusal that was written.
+/// Flushes where all was written: how the run ends.
 fn end_run<W: Write>(
     written: Result<(), RunDepthFault>,
-    finish: Finish,
-    refused_at: Option<Place>,
+    ending: Ending,
     out: &mut Output<'_, W>,
-    place: &mut Option<Place>,
-) -> Result<Finish, RunDepthFault>
-    requires no_place { place.old ≡ None }
+) -> Result<Ending, RunDepthFault>
     requires told { TellsWrite out.old (unbounded written) }
-    ensures ends { EndsBehind written finish (contents_of W.contents out.old)
+    ensures ends { EndsBehind written ending (contents_of W.contents out.old)
         (contents_of W.contents out.new) result }
-    ensures place { OnOk (unbounded result) (place.new ≡ refused_at) }
-    ensures no_place { OnErr (unbounded result) (place.new ≡ None) }
     ensures same { IsSameOutput out.old out.new }
     ensures cause { TellsWrite out.new (unbounded result) }
 {
@@ -115,10 +104,7 @@ fn end_run<W: Write>(
         Err(fault) => Err(fault),
         Ok(()) => match out.flush() {
             Err(_) => Err(RunDepthFault::Run(RunFault::Write)),
-            Ok(()) => {
-                *place = refused_at;
-                Ok(finish)
-            }
+            Ok(()) => Ok(ending),
         },
     }
 }

@@ -26,7 +26,7 @@ use std::alloc::Global;
 use std::io::Write;
 
 /// What an engine answers, of a call that says how many calls may wait.
-fn answered(answer: Result<Outcome, EngineFault>) -> Result<Outcome, DepthFault>
+fn engine_answer(answer: Result<Outcome, EngineFault>) -> Result<Outcome, DepthFault>
     ensures { result ≡ of_engine answer }
 {
     match answer {
@@ -58,7 +58,7 @@ pub fn evaluate_within<B: TermBank>(
 {
     match depth {
         Some(depth) => engine.normalise_within(t, n, depth),
-        None => answered(engine.normalise(t, n)),
+        None => engine_answer(engine.normalise(t, n)),
     }
 }
 
@@ -84,7 +84,7 @@ pub fn evaluate_observed<B: TermBank, V: Watch>(
 {
     match depth {
         Some(depth) => engine.normalise_within_watched(t, n, depth, watch),
-        None => answered(engine.normalise_watched(t, n, watch)),
+        None => engine_answer(engine.normalise_watched(t, n, watch)),
     }
 }
 
@@ -162,7 +162,8 @@ pub fn write_evaluation_within<B: TermBank, W: Write>(
     ensures ok { OnOk result (Writes W.contents out.old out.new
         (given_text engine.old.spec (shown_of settings) settings.options.steps
         (item_at (B.store engine.old.bank) t) ++ codes "\n")) }
-    ensures err { IfErr (unbounded_line result) (λ fault. WritesFront W.contents out.old out.new (due_before fault
+    ensures err { IfErr (unbounded_line result) (λ fault.
+        WritesFront W.contents out.old out.new (due_before fault
         (given_text engine.old.spec (shown_of settings) settings.options.steps
         (item_at (B.store engine.old.bank) t)))) }
     ensures room { IfErr (unbounded_line result)
@@ -191,7 +192,8 @@ pub(crate) fn write_evaluation_observed<B: TermBank, W: Write, V: Watch>(
     ensures ok { OnOk result (Writes W.contents out.old out.new
         (given_text engine.old.spec (shown_of settings) settings.options.steps
         (item_at (B.store engine.old.bank) t) ++ codes "\n")) }
-    ensures err { IfErr (unbounded_line result) (λ fault. WritesFront W.contents out.old out.new (due_before fault
+    ensures err { IfErr (unbounded_line result) (λ fault.
+        WritesFront W.contents out.old out.new (due_before fault
         (given_text engine.old.spec (shown_of settings) settings.options.steps
         (item_at (B.store engine.old.bank) t)))) }
     ensures room { IfErr (unbounded_line result)

@@ -37,7 +37,7 @@ ghost use Rattle.rec_run.specs.GivenTerms.{given_at, given_by, given_lines};
 ghost use Rattle.rec_run.specs.Output.{bare, lines, shown_by, shown_of};
 ghost use Rattle.rec_run.specs.Reading.{text_at};
 
-use crate::depth::{LineDepthFault, RunDepthFault, unbounded};
+use crate::depth::{LineDepthFault, RunDepthFault, unbounded_end};
 use crate::options::{LimitLines, RunOptions, RunSettings};
 use crate::spec::evaluation::write_evaluation_observed;
 use rec_engine::{Engine, EngineFault, Unwatched, Watch};
@@ -175,7 +175,7 @@ pub fn write_lines_to<B: TermBank, W: Write>(
         limits,
         depth: None,
     };
-    unbounded(write_lines_within(alloc, engine, list, out, settings))
+    unbounded_end(write_lines_within(alloc, engine, list, out, settings))
 }
 
 /// The same where it may be said how many calls may wait, with limit lines that say of a given term
@@ -261,7 +261,8 @@ fn write_own_lines<B: TermBank, W: Write, V: Watch>(
     ensures ok { OnOk result (Writes W.contents out.old out.new
         (lines engine.old.spec [] (bare settings.options.count) settings.options.steps)) }
     ensures err { IfErr (unbounded result)
-        (λ fault. Stops fault (lines engine.old.spec [] (bare settings.options.count) settings.options.steps)
+        (λ fault. Stops fault
+        (lines engine.old.spec [] (bare settings.options.count) settings.options.steps)
         (contents_of W.contents out.old) (contents_of W.contents out.new)) }
     ensures room { IfErr (unbounded result)
         (RunLacks (B.store engine.new.bank) engine.new.work engine.new.memo) }
@@ -293,7 +294,8 @@ fn write_own_line<B: TermBank, W: Write, V: Watch>(
     ensures same { SameEngine engine.old engine.new }
     ensures keeps { Keeps (B.store engine.old.bank) (B.store engine.new.bank) [] }
     ensures ok { OnOk result (Writes W.contents out.old out.new
-        (text_at engine.old.spec (bare settings.options.count) settings.options.steps i ++ codes "\n")) }
+        (text_at engine.old.spec (bare settings.options.count) settings.options.steps i
+        ++ codes "\n")) }
     ensures err { IfErr (unbounded_line result) (λ fault.
         WritesFront W.contents out.old out.new (due_before fault
         (text_at engine.old.spec (bare settings.options.count) settings.options.steps i))) }

@@ -180,7 +180,7 @@ pub fn write_notes_to<B: TermBank, W: Write>(
     match bank.anns(t) {
         None => Ok(()),
         Some(list) => {
-            let text = printed_items(alloc, bank, list)?;
+            let text = items_text(alloc, bank, list)?;
             put_between(b"{", &text, b"}", out)?;
             Ok(())
         }
@@ -188,17 +188,17 @@ pub fn write_notes_to<B: TermBank, W: Write>(
 }
 
 /// The printed text of the items of a list without annotations, with commas between.
-fn printed_items<B: TermBank>(alloc: Global, bank: &B, list: Term) -> Result<Vec<u8>, AllocError>
+fn items_text<B: TermBank>(alloc: Global, bank: &B, list: Term) -> Result<Vec<u8>, AllocError>
     requires { (ts : Trees) × (tree_at (B.store bank.now) list ≡ Some (list_of ts)) }
     ensures { IfOk result (λ text. (ts : Trees)
         → tree_at (B.store bank.now) list ≡ Some (list_of ts) → text.items ≡ canon_all ts) }
 {
-    let text = printed(alloc, bank, list)?;
+    let text = term_text(alloc, bank, list)?;
     Vec::from_slice(alloc, &text[1..text.len() - 1])
 }
 
 /// The printed text of a term.
-fn printed<B: TermBank>(alloc: Global, bank: &B, t: Term) -> Result<Vec<u8>, AllocError>
+fn term_text<B: TermBank>(alloc: Global, bank: &B, t: Term) -> Result<Vec<u8>, AllocError>
     requires { IsSome (tree_at (B.store bank.now) t) }
     ensures { IfOk result (λ text.
         IfSome (tree_at (B.store bank.now) t) (λ u. text.items ≡ canon u)) }

@@ -361,12 +361,12 @@ fn judge_list<B: TermBank>(
 {
     match check_terms(alloc, checked, bank, list) {
         Ok(()) => Ok(Reading::Good(list)),
-        Err(fault) => refused_list(fault),
+        Err(fault) => refuse_list(fault),
     }
 }
 
 /// What a text of terms comes to whose list is not accepted.
-fn refused_list(fault: TermsFault) -> Result<Reading<Term>, RunFault>
+fn refuse_list(fault: TermsFault) -> Result<Reading<Term>, RunFault>
     ensures { result ≡ list_refused fault }
 {
     match fault {

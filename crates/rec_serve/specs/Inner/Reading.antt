@@ -1,9 +1,10 @@
 -- How requests are read: bytes that were read ahead, and a request as far as it was read.
 --     left_of ahead known       the bytes of a stream that belong to no request yet
 --     IsRead request line       a request is this line, as far as it is kept
---     Splits old left done      the first requests of known bytes are these, and the others are those
---                               of what is left
-use Rattle.std.specs.Prelude.{ℕ, ◌≡◌, ◌<◌, ◌++◌, Bool, false, if◌then◌else◌, List, [], ◌∷◌, Option, Some, None, MatchBool, length, take, slice_range}
+--     Splits old left done      the first requests of known bytes are these, and the others are
+--                               those of what is left
+use Rattle.std.specs.Prelude.{ℕ, ◌≡◌, ◌<◌, ◌++◌, Bool, false, if◌then◌else◌, List, [], ◌∷◌, Option}
+use Rattle.std.specs.Prelude.{Some, None, MatchBool, length, take, slice_range}
 use Rattle.std.specs.Io.KnownBytes.{prepend_known}
 use Rattle.rec_serve.specs.Conversation.{in_front, requests}
 use Rattle.rec_serve.specs.declared.read_ahead.ReadAhead.{ReadAhead}

@@ -5,7 +5,7 @@ ghost use Rattle.std.specs.Prelude.{◌≡◌, ◌≤◌, ◌^◌, ℕ};
 use crate::rows::counting::{Counting, Counts};
 use crate::rows::given::run_beside;
 use crate::rows::{ADD, Q, expect_ran, push, push_often};
-use rec_run::{Ended, Finish, RunFault, RunOptions, run, run_in};
+use rec_run::{Ended, Ending, Finish, RunFault, RunOptions, run, run_in};
 use rx_shared::SharedBank;
 use rx_term::TermBank;
 use std::alloc::Global;
@@ -40,7 +40,7 @@ const TICK: &str = counter!("tick(e)");
 /// What a run over a counting bank came to.
 #[derive(Drop)]
 struct Counted {
-    end: Result<Finish, RunFault>,
+    end: Result<Ending, RunFault>,
     written: Vec<u8>,
     counts: Counts,
     /// How much the last evaluation needed.
@@ -83,7 +83,6 @@ fn run_over<B: TermBank + Drop>(
     requires unrooted { (t : ℕ) → (B.store bank).roots t ≡ 0 }
     requires limit { (B.store bank).cap ≡ options.cells }
 {
-    let mut place = None;
     let mut written = Vec::new(alloc);
     let ended = run_in(
         alloc,
@@ -92,7 +91,6 @@ fn run_over<B: TermBank + Drop>(
         None::<&mut &[u8]>,
         &mut written,
         options,
-        &mut place,
     );
     tell(ended, written)
 }
@@ -114,7 +112,6 @@ fn run_beside_over<B: TermBank + Drop>(
     requires unrooted { (t : ℕ) → (B.store bank).roots t ≡ 0 }
     requires limit { (B.store bank).cap ≡ options.cells }
 {
-    let mut place = None;
     let mut written = Vec::new(alloc);
     let ended = run_in(
         alloc,
@@ -123,7 +120,6 @@ fn run_beside_over<B: TermBank + Drop>(
         Some(&mut terms),
         &mut written,
         options,
-        &mut place,
     );
     tell(ended, written)
 }
@@ -153,7 +149,7 @@ fn thousand(steps: u32, cells: u32) -> RunOptions {
 
 /// Stops where a run wrote other lines, or met a fault.
 fn expect_counted(rt: &impl Abort, counted: &Counted, lines: &str) {
-    assert!(rt; counted.end == Ok(Finish::Done));
+    assert!(rt; matches!(counted.end, Ok(Ending::Done)));
     assert!(rt; counted.written.as_slice() == lines.as_bytes());
 }
 
@@ -265,7 +261,7 @@ fn given_terms_in_three_cells(rt: HostRuntime) {
 #[test]
 fn given_terms_fill_a_bank_of_three_cells(rt: HostRuntime) {
     let short = run_beside_counted(&rt, rt.alloc(), Q, "[b,a]", three_cells());
-    assert!(rt; short.end == Err(RunFault::Room { lines: 0 }));
+    assert!(rt; matches!(short.end, Err(RunFault::Room { lines: 0 })));
     assert!(rt; short.cells == 3);
     assert!(rt; short.cap == 3);
     assert!(rt; short.needed == 0);
@@ -302,7 +298,7 @@ fn a_thousand_terms(rt: HostRuntime) {
 
 /// Stops where a run ended otherwise than by want of cells, or cells are left.
 fn expect_full(rt: &impl Abort, counted: &Counted) {
-    assert!(rt; counted.end == Err(RunFault::Room { lines: 0 }));
+    assert!(rt; matches!(counted.end, Err(RunFault::Room { lines: 0 })));
     assert!(rt; counted.cells == 9);
     assert!(rt; counted.cap == 9);
     assert!(rt; counted.needed <= 12);

@@ -2,8 +2,8 @@
 
 use crate::rows::streams::{bytewise, taking};
 use crate::rows::{addition, options};
-use rec_run::{Finish, LimitLines, RunDepthFault, RunOptions, RunSettings, run_within};
-use rec_serve::{Deaf, ServeSettings, run_serve_within};
+use rec_run::{Ending, Finish, LimitLines, RunDepthFault, RunOptions, RunSettings, run_within};
+use rec_serve::{Deaf, ServeSettings, run_serve};
 use std::alloc::Global;
 use std::process::Abort;
 
@@ -43,14 +43,10 @@ fn ends(
         depth,
     };
     let mut spec = bytewise(SUMS);
-    let end = run_within(
-        alloc,
-        &mut spec,
-        None::<&mut &[u8]>,
-        &mut out,
-        settings,
-        &mut None,
-    );
+    let end = match run_within(alloc, &mut spec, None::<&mut &[u8]>, &mut out, settings) {
+        Ok(ending) => Ok(ending.finish()),
+        Err(fault) => Err(fault),
+    };
     assert!(rt; end == due, "{lines}");
     assert!(rt; out.held.as_slice() == lines.as_bytes(), "{lines}");
 }
@@ -85,16 +81,15 @@ fn answers(rt: &impl Abort, alloc: Global, depth: Option<u32>, lines: &str) {
     };
     let mut requests = bytewise("plus(s(z),z)\nplus(s(s(z)),z)\nz(\nplus(s(z),z){a}");
     let mut spec = bytewise(SUMS);
-    let end = run_serve_within(
+    let end = run_serve(
         alloc,
         &mut spec,
         &mut requests,
         &mut out,
         settings,
-        &mut None,
         &mut Deaf,
     );
-    assert!(rt; end == Ok(Finish::Done), "{lines}");
+    assert!(rt; matches!(end, Ok(Ending::Done)), "{lines}");
     assert!(rt; out.held.as_slice() == lines.as_bytes(), "{lines}");
 }
 

@@ -3,7 +3,8 @@
 use crate::rows::streams::bytewise;
 use crate::rows::{ADD, Q, Ran, expect_ran, options, run_on};
 use rec_run::{
-    Finish, LimitLines, Named, Place, RunFault, RunOptions, Source, refused_term, run_with,
+    Ending, Finish, LimitLines, Named, Place, RunFault, RunOptions, RunSettings, Source,
+    refused_term, run_within,
 };
 use std::alloc::Global;
 use std::process::Abort;
@@ -100,31 +101,19 @@ pub(crate) fn run_beside(
     run_on(alloc, &mut spec, Some(&mut terms), options)
 }
 
-/// What a run came to whose limit lines have annotations.
-fn run_annotated(alloc: Global, mut spec: &[u8], mut terms: &[u8], options: RunOptions) -> Ran {
-    let mut place = None;
-    let mut written = Vec::new(alloc);
-    let result = run_with(
-        alloc,
-        &mut spec,
-        Some(&mut terms),
-        &mut written,
-        options,
-        LimitLines::Annotated,
-        &mut place,
-    );
-    Ran {
-        result,
-        place,
-        written,
-    }
-}
-
 /// Stops where a row's terms come to other lines with annotated limits.
 fn expect_annotated(rt: &impl Abort, alloc: Global, row: &Value) {
-    let options = options(row.2, row.3);
-    let ran = run_annotated(alloc, row.0.as_bytes(), row.1.as_bytes(), options);
-    expect_ran(rt, &ran, Finish::Done, None, row.4);
+    let mut spec = row.0.as_bytes();
+    let mut terms = row.1.as_bytes();
+    let mut written = Vec::new(alloc);
+    let settings = RunSettings {
+        options: options(row.2, row.3),
+        limits: LimitLines::Annotated,
+        depth: None,
+    };
+    let end = run_within(alloc, &mut spec, Some(&mut terms), &mut written, settings);
+    assert!(rt; matches!(end, Ok(Ending::Done)), "{}", row.4);
+    assert!(rt; written.as_slice() == row.4.as_bytes(), "{}", row.4);
 }
 
 #[test]

@@ -4,7 +4,7 @@ use crate::rows::given::run_beside;
 use crate::rows::performing::{Job, expect_held, perform};
 use crate::rows::spec::TITLE;
 use crate::rows::streams::{Slow, bytewise, endless, taking};
-use crate::rows::{LIMIT, PAST, Q, Ran, expect_ran, options, padded, run_on};
+use crate::rows::{LIMIT, PAST, Q, Ran, expect_ran, options, pad, run_on};
 use rec_run::Finish;
 use std::alloc::Global;
 use std::process::Abort;
@@ -16,7 +16,7 @@ fn run_without_steps(alloc: Global, spec: &mut &[u8]) -> Ran {
 
 #[test]
 fn the_longest_specification(rt: HostRuntime) {
-    let text = padded(&rt, rt.alloc(), TITLE, LIMIT);
+    let text = pad(&rt, rt.alloc(), TITLE, LIMIT);
     let ran = run_without_steps(rt.alloc(), &mut text.as_slice());
     expect_ran(&rt, &ran, Finish::Done, None, "");
 }
@@ -34,7 +34,7 @@ fn expect_rest(rt: &impl Abort, alloc: Global, mut text: &[u8], rest: &[u8]) {
 
 #[test]
 fn a_byte_too_much(rt: HostRuntime) {
-    let mut text = padded(&rt, rt.alloc(), TITLE, PAST);
+    let mut text = pad(&rt, rt.alloc(), TITLE, PAST);
     expect_rest(&rt, rt.alloc(), &text, &[]);
     assert!(rt; text.extend_from_slice(REST).is_ok());
     expect_rest(&rt, rt.alloc(), &text, REST);
@@ -42,7 +42,7 @@ fn a_byte_too_much(rt: HostRuntime) {
 
 #[test]
 fn the_longest_terms(rt: HostRuntime) {
-    let terms = padded(&rt, rt.alloc(), "[a]", LIMIT);
+    let terms = pad(&rt, rt.alloc(), "[a]", LIMIT);
     let ran = run_beside(rt.alloc(), Q.as_bytes(), &terms, options(1, false));
     expect_ran(&rt, &ran, Finish::Done, None, "a\na\n");
 }
@@ -80,7 +80,7 @@ fn blanks_without_end(rt: HostRuntime) {
 
 #[test]
 fn long_patterns_and_arguments(rt: HostRuntime) {
-    let long = padded(&rt, rt.alloc(), "", PAST);
+    let long = pad(&rt, rt.alloc(), "", PAST);
     let term = &mut bytewise("a");
     expect_long(
         &rt,

@@ -1,8 +1,8 @@
 //! Texts of one term that are printed over several lines.
 
 use crate::rows::streams::{bytewise, failing, failing_at, taking};
-use rec_run::{Finish, Named, Place, Source, run_aterm};
-use rx_look::{LookFault, run_aterm_indented, run_aterm_indented_at};
+use rec_run::{Ending, Finish, Named, Place, Source, run_aterm};
+use rx_look::{LookFault, run_aterm_indented};
 use std::alloc::Global;
 use std::io::ErrorKind;
 use std::process::Abort;
@@ -44,7 +44,7 @@ fn expect_laid(rt: &impl Abort, alloc: Global, row: &Row) {
     let mut written = Vec::new(alloc);
     let end = run_aterm_indented(alloc, &mut text.as_bytes(), indent, &mut written);
     assert!(rt;
-        end == Ok(Finish::Done) && written.as_slice() == lines.as_bytes(),
+        matches!(end, Ok(Ending::Done)) && written.as_slice() == lines.as_bytes(),
         "{text}"
     );
     let first = in_one_line(rt, alloc, text.as_bytes());
@@ -62,15 +62,16 @@ fn over_several_lines(rt: HostRuntime) {
 /// Stops where a text that is no term is not refused at its place.
 fn expect_refused(rt: &impl Abort, alloc: Global, mut text: &[u8], at: u32) {
     let mut written = Vec::new(alloc);
-    let mut place = None;
-    let end = run_aterm_indented_at(alloc, &mut text, 1, &mut written, &mut place);
+    let Ok(ending) = run_aterm_indented(alloc, &mut text, 1, &mut written) else {
+        panic!(rt; "a stream refused")
+    };
     let due = Place {
         text: Source::Term,
         rule: Named::A,
         at,
     };
-    assert!(rt; end == Ok(Finish::Refused) && written.as_slice() == REFUSAL);
-    assert!(rt; place == Some(due));
+    assert!(rt; matches!(ending, Ending::Refused(_)) && written.as_slice() == REFUSAL);
+    assert!(rt; ending.place() == Some(due));
 }
 
 #[test]
@@ -83,7 +84,7 @@ fn expect_unread(rt: &impl Abort, alloc: Global, number: usize) {
     let mut input = failing("f(a)", number, ErrorKind::Other);
     let mut out = taking(alloc);
     let end = run_aterm_indented(alloc, &mut input, 1, &mut out);
-    assert!(rt; end == Err(LookFault::Read) && out.held.is_empty());
+    assert!(rt; matches!(end, Err(LookFault::Read)) && out.held.is_empty());
 }
 
 /// What is due for `f(a)` with one blank for each level.
@@ -93,7 +94,7 @@ const DUE: &[u8] = b"f(\n a\n)\n";
 fn expect_unwritten(rt: &impl Abort, alloc: Global, number: usize) {
     let mut out = failing_at(alloc, number, Some(ErrorKind::Other));
     let end = run_aterm_indented(alloc, &mut bytewise("f(a)"), 1, &mut out);
-    assert!(rt; end == Err(LookFault::Write));
+    assert!(rt; matches!(end, Err(LookFault::Write)));
     assert!(rt; DUE.starts_with(out.held.as_slice()));
     assert!(rt; out.held.len() == number.wrapping_sub(1));
 }

@@ -99,7 +99,7 @@ static REFUSED_ARGUMENTS: [RefusedArgument; 8] = [
 ];
 
 /// What a match of a text's pattern with a text's term came to.
-fn matched(alloc: Global, pattern: &str, mut input: &[u8]) -> Ran {
+fn match_texts(alloc: Global, pattern: &str, mut input: &[u8]) -> Ran {
     let mut place = None;
     let mut written = Vec::new(alloc);
     let pattern = pattern.as_bytes();
@@ -112,7 +112,7 @@ fn matched(alloc: Global, pattern: &str, mut input: &[u8]) -> Ran {
 }
 
 /// What making of a text's arguments came to.
-fn made(alloc: Global, pattern: &str, args: &[u8]) -> Ran {
+fn make_texts(alloc: Global, pattern: &str, args: &[u8]) -> Ran {
     let mut place = None;
     let mut written = Vec::new(alloc);
     let result = run_make_at(alloc, pattern.as_bytes(), args, &mut written, &mut place);
@@ -126,7 +126,7 @@ fn made(alloc: Global, pattern: &str, args: &[u8]) -> Ran {
 #[test]
 fn matches(rt: HostRuntime) {
     for (pattern, text, lines) in &MATCHES {
-        let ran = matched(rt.alloc(), pattern, text.as_bytes());
+        let ran = match_texts(rt.alloc(), pattern, text.as_bytes());
         expect_ran(&rt, &ran, Finish::Done, None, lines);
     }
 }
@@ -134,7 +134,7 @@ fn matches(rt: HostRuntime) {
 #[test]
 fn makes(rt: HostRuntime) {
     for (pattern, args, lines) in &MAKES {
-        let ran = made(rt.alloc(), pattern, args.as_bytes());
+        let ran = make_texts(rt.alloc(), pattern, args.as_bytes());
         expect_ran(&rt, &ran, Finish::Done, None, lines);
     }
 }
@@ -155,7 +155,7 @@ fn expect_refused(rt: &impl Abort, ran: &Ran, line: &str, outside: Outside) {
 #[test]
 fn refused_matches(rt: HostRuntime) {
     for (pattern, text, line, outside) in &REFUSED_MATCHES {
-        let ran = matched(rt.alloc(), pattern, text.as_bytes());
+        let ran = match_texts(rt.alloc(), pattern, text.as_bytes());
         expect_refused(&rt, &ran, line, *outside);
     }
 }
@@ -163,7 +163,7 @@ fn refused_matches(rt: HostRuntime) {
 #[test]
 fn refused_makes(rt: HostRuntime) {
     for (pattern, args, line, outside) in &REFUSED_MAKES {
-        let ran = made(rt.alloc(), pattern, args.as_bytes());
+        let ran = make_texts(rt.alloc(), pattern, args.as_bytes());
         expect_refused(&rt, &ran, line, *outside);
     }
 }

@@ -1,11 +1,11 @@
 //! Conversations over readers and writers that give or take one byte a call.
 
-use crate::rows::streams::{Sink, bytewise, failing, failing_at, taking, unflushed};
+use crate::rows::streams::{Sink, Slow, bytewise, failing, failing_at, taking, unflushed};
 use crate::rows::{Q, options};
 use rec_engine::Engine;
-use rec_run::{Finish, engine_over, read_spec_text};
+use rec_run::{Ending, engine_over, read_spec_text};
 use rec_serve::{
-    Deaf, Refusal, ServeFault, Want, answer, answer_in, converse, run_serve, run_serve_at,
+    Deaf, Refusal, ServeFault, ServeSettings, Want, answer, answer_in, converse, run_serve,
 };
 use rec_sorts::Checked;
 use rx_run::{Named, Place, Reading, Source};
@@ -26,19 +26,50 @@ fn lines_in(held: &[u8]) -> u64 {
     held.iter().filter(|byte| **byte == b'\n').count() as u64
 }
 
+/// The fault at which a conversation stopped, where there was one.
+fn fault_in(end: Result<Ending, ServeFault>) -> Option<ServeFault> {
+    match end {
+        Ok(_) => None,
+        Err(fault) => Some(fault),
+    }
+}
+
 /// Stops where something else was written than a beginning of the answers.
 fn expect_beginning(rt: &impl Abort, out: &Sink) {
     assert!(rt; LINES.as_bytes().starts_with(out.held.as_slice()));
+}
+
+/// What a conversation comes to, within one step that is counted.
+fn converse_with(
+    alloc: Global,
+    spec: &str,
+    requests: &mut Slow<'_>,
+    out: &mut Sink,
+) -> Result<Ending, ServeFault> {
+    let settings = ServeSettings {
+        options: options(1, true),
+        depth: None,
+    };
+    run_serve(
+        alloc,
+        &mut bytewise(spec),
+        requests,
+        out,
+        settings,
+        &mut Deaf,
+    )
 }
 
 /// A conversation whose reader fails at a read.
 fn fails_to_read(rt: &impl Abort, alloc: Global, at: usize) {
     let mut out = taking(alloc);
     let mut requests = failing(REQUESTS, at, ErrorKind::Other);
-    let options = options(1, true);
-    let end = run_serve(alloc, &mut bytewise(Q), &mut requests, &mut out, options);
+    let end = converse_with(alloc, Q, &mut requests, &mut out);
     let answered = lines_in(out.held.as_slice());
-    assert!(rt; end == Err(ServeFault::Read { answered }), "{at}");
+    assert!(rt;
+        fault_in(end) == Some(ServeFault::Read { answered }),
+        "{at}"
+    );
     assert!(rt; requests.reads == at, "{at}");
     expect_beginning(rt, &out);
 }
@@ -47,10 +78,12 @@ fn fails_to_read(rt: &impl Abort, alloc: Global, at: usize) {
 fn fails_to_write(rt: &impl Abort, alloc: Global, at: usize, error: Option<ErrorKind>) {
     let mut out = failing_at(alloc, at, error);
     let mut requests = bytewise(REQUESTS);
-    let options = options(1, true);
-    let end = run_serve(alloc, &mut bytewise(Q), &mut requests, &mut out, options);
+    let end = converse_with(alloc, Q, &mut requests, &mut out);
     let answered = lines_in(out.held.as_slice());
-    assert!(rt; end == Err(ServeFault::Write { answered }), "{at}");
+    assert!(rt;
+        fault_in(end) == Some(ServeFault::Write { answered }),
+        "{at}"
+    );
     assert!(rt; out.writes == at, "{at}");
     expect_beginning(rt, &out);
 }
@@ -59,10 +92,9 @@ fn fails_to_write(rt: &impl Abort, alloc: Global, at: usize, error: Option<Error
 fn answers_each_request(rt: HostRuntime) {
     let alloc = rt.alloc();
     let mut out = taking(alloc);
-    let options = options(1, true);
     let mut requests = bytewise(REQUESTS);
-    let end = run_serve(alloc, &mut bytewise(Q), &mut requests, &mut out, options);
-    assert!(rt; end == Ok(Finish::Done));
+    let end = converse_with(alloc, Q, &mut requests, &mut out);
+    assert!(rt; matches!(end, Ok(Ending::Done)));
     assert!(rt; out.held.as_slice() == LINES.as_bytes());
 }
 
@@ -78,9 +110,8 @@ fn breaks_off_where_a_stream_fails(rt: HostRuntime) {
     }
     let mut out = unflushed(alloc, ErrorKind::Other);
     let mut requests = bytewise(REQUESTS);
-    let options = options(1, true);
-    let end = run_serve(alloc, &mut bytewise(Q), &mut requests, &mut out, options);
-    assert!(rt; end == Err(ServeFault::Write { answered: 0 }));
+    let end = converse_with(alloc, Q, &mut requests, &mut out);
+    assert!(rt; fault_in(end) == Some(ServeFault::Write { answered: 0 }));
     assert!(rt; requests.reads == 0 && out.held.is_empty());
 }
 
@@ -89,21 +120,14 @@ fn a_refused_specification_is_enough(rt: HostRuntime) {
     let alloc = rt.alloc();
     let mut out = taking(alloc);
     let mut requests = bytewise(REQUESTS);
-    let mut place = None;
-    let mut spec = bytewise("REC-SPEC E SORTS : END-SPEC");
-    let end = run_serve_at(
-        alloc,
-        &mut spec,
-        &mut requests,
-        &mut out,
-        options(1, true),
-        &mut place,
-        &mut Deaf,
-    );
+    let spec = "REC-SPEC E SORTS : END-SPEC";
+    let Ok(ending) = converse_with(alloc, spec, &mut requests, &mut out) else {
+        panic!(rt; "a stream refused")
+    };
     let text = Source::Spec;
     let rule = Named::G;
-    assert!(rt; end == Ok(Finish::Refused) && requests.reads == 0);
-    assert!(rt; place == Some(Place { text, rule, at: 17 }));
+    assert!(rt; matches!(ending, Ending::Refused(_)) && requests.reads == 0);
+    assert!(rt; ending.place() == Some(Place { text, rule, at: 17 }));
     assert!(rt; out.held.as_slice() == b"!spec G\n".as_slice());
 }
 

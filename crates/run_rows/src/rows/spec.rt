@@ -207,7 +207,7 @@ pub(crate) fn expect_lines(
 }
 
 /// The same with a reclaim after each new cell.
-fn often(steps: u32, count: bool) -> RunOptions {
+fn reclaim_often(steps: u32, count: bool) -> RunOptions {
     let mut often = options(steps, count);
     often.reclaim = 1;
     often
@@ -217,7 +217,7 @@ fn often(steps: u32, count: bool) -> RunOptions {
 fn values(rt: HostRuntime) {
     for (text, steps, count, lines) in &VALUES {
         expect_lines(&rt, rt.alloc(), text, options(*steps, *count), lines);
-        expect_lines(&rt, rt.alloc(), text, often(*steps, *count), lines);
+        expect_lines(&rt, rt.alloc(), text, reclaim_often(*steps, *count), lines);
     }
 }
 
@@ -293,7 +293,7 @@ fn pair(rt: &impl Abort, alloc: Global, part: &str) -> String {
 }
 
 /// A tree of `p` over `z` with so many levels below its root.
-fn balanced(rt: &impl Abort, alloc: Global, levels: u32) -> String {
+fn balanced_tree(rt: &impl Abort, alloc: Global, levels: u32) -> String {
     let mut tree = String::new(alloc);
     push(rt, &mut tree, "z");
     for _ in 0..levels {
@@ -320,7 +320,7 @@ fn push_wide(rt: &impl Abort, text: &mut String, tree: &str) {
 
 #[test]
 fn long_specification(rt: HostRuntime) {
-    let mut tree = balanced(&rt, rt.alloc(), 15);
+    let mut tree = balanced_tree(&rt, rt.alloc(), 15);
     let mut text = String::new(rt.alloc());
     push_wide(&rt, &mut text, tree.as_str());
     assert!(rt; text.len() > 100_000);

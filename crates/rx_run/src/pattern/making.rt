@@ -1,18 +1,18 @@
 //! Runs that make a term by a pattern.
 
-ghost use Rattle.std.specs.Prelude.{◌≡◌, ◌≢◌, None, IfErr, IfOk, OnErr, OnOk};
+ghost use Rattle.std.specs.Prelude.{◌≡◌, ◌≢◌, IfErr, IfOk};
 ghost use Rattle.rx_text.specs.Output.{IsSameOutput, IsWritable, contents_of};
 ghost use Rattle.rx_run.specs.Inner.PatternAnswers.{IsPatternRead};
-ghost use Rattle.rx_run.specs.Run.{Breaks, Ends, IsPlaced};
+ghost use Rattle.rx_run.specs.Run.{Breaks, Concludes};
 ghost use Rattle.rx_run.specs.Run.{RoomFills, RoomFillsOne};
 ghost use Rattle.rx_run.specs.Streams.{TellsWrite};
 ghost use Rattle.rx_run.specs.PatternRuns.{IsMakeDue};
 
-use crate::ending::{Finish, Place, RunFault};
+use crate::ending::RunFault;
 use crate::pattern::answer::make_of_reading;
 use crate::pattern::reading::{read_pattern, read_pattern_in};
 use crate::pattern::runs::end_answer;
-use crate::refusal::Reading;
+use crate::refusal::{Ending, Reading};
 use crate::term::reading::{MOST_CELLS, empty_bank};
 use rx_pattern::Pattern;
 use rx_term::TermBank;
@@ -22,40 +22,20 @@ use std::io::Write;
 
 /// Makes a tree from the texts of a pattern and of its arguments, writes its printed text and a
 /// line end, and flushes; or the line of a refusal.
-pub fn run_make<W: Write>(
+pub fn make_term<W: Write>(
     alloc: Global,
     pattern: &[u8],
     args: &[u8],
     out: &mut W,
-) -> Result<Finish, RunFault>
-    ensures output { IfOk result (λ finish.
-        Ends (IsMakeDue pattern.now args.now) finish (W.contents out.old) (W.contents out.new)) }
+) -> Result<Ending, RunFault>
+    ensures ends { IfOk result (λ ending. Concludes (IsMakeDue pattern.now args.now) ending
+        (W.contents out.old) (W.contents out.new)) }
     ensures fault { IfErr result (λ fault.
         Breaks (IsMakeDue pattern.now args.now) fault (W.contents out.old) (W.contents out.new)) }
-    ensures no_reader { IfErr result (λ fault. fault ≢ RunFault.Read) }
-{
-    let mut place = None;
-    run_make_at(alloc, pattern, args, out, &mut place)
-}
-
-/// The same, with the place of the refusal that was written.
-pub fn run_make_at<W: Write>(
-    alloc: Global,
-    pattern: &[u8],
-    args: &[u8],
-    out: &mut W,
-    place: &mut Option<Place>,
-) -> Result<Finish, RunFault>
-    ensures output { IfOk result (λ finish.
-        Ends (IsMakeDue pattern.now args.now) finish (W.contents out.old) (W.contents out.new)) }
-    ensures place { OnOk result (IsPlaced (IsMakeDue pattern.now args.now) place.new) }
-    ensures fault { IfErr result (λ fault.
-        Breaks (IsMakeDue pattern.now args.now) fault (W.contents out.old) (W.contents out.new)) }
-    ensures no_place { OnErr result (place.new ≡ None) }
     ensures no_reader { IfErr result (λ fault. fault ≢ RunFault.Read) }
 {
     let mut output = Output::new(out);
-    make_alone(alloc, pattern, args, &mut output, place)
+    make_alone(alloc, pattern, args, &mut output)
 }
 
 /// The same to an output. It is asked no more once it refused.
@@ -64,24 +44,20 @@ fn make_alone<W: Write>(
     pattern: &[u8],
     args: &[u8],
     out: &mut Output<'_, W>,
-    place: &mut Option<Place>,
-) -> Result<Finish, RunFault>
+) -> Result<Ending, RunFault>
     requires { IsWritable out.old }
-    ensures output { IfOk result (λ finish.
-        Ends (IsMakeDue pattern.now args.now) finish (contents_of W.contents out.old)
+    ensures ends { IfOk result (λ ending.
+        Concludes (IsMakeDue pattern.now args.now) ending (contents_of W.contents out.old)
         (contents_of W.contents out.new)) }
-    ensures place { OnOk result (IsPlaced (IsMakeDue pattern.now args.now) place.new) }
     ensures fault { IfErr result (λ fault.
         Breaks (IsMakeDue pattern.now args.now) fault (contents_of W.contents out.old)
         (contents_of W.contents out.new)) }
-    ensures no_place { OnErr result (place.new ≡ None) }
     ensures no_reader { IfErr result (λ fault. fault ≢ RunFault.Read) }
     ensures same { IsSameOutput out.old out.new }
     ensures cause { TellsWrite out.new result }
 {
-    *place = None;
     match empty_bank(alloc, MOST_CELLS) {
-        Ok(bank) => make_owned(alloc, bank, pattern, args, out, place),
+        Ok(bank) => make_owned(alloc, bank, pattern, args, out),
         Err(fault) => Err(fault),
     }
 }
@@ -96,14 +72,11 @@ pub fn run_make_in<B: TermBank, W: Write>(
     pattern: &[u8],
     args: &[u8],
     out: &mut W,
-    place: &mut Option<Place>,
-) -> Result<Finish, RunFault>
-    ensures output { IfOk result (λ finish.
-        Ends (IsMakeDue pattern.now args.now) finish (W.contents out.old) (W.contents out.new)) }
-    ensures place { OnOk result (IsPlaced (IsMakeDue pattern.now args.now) place.new) }
+) -> Result<Ending, RunFault>
+    ensures ends { IfOk result (λ ending.
+        Concludes (IsMakeDue pattern.now args.now) ending (W.contents out.old) (W.contents out.new)) }
     ensures fault { IfErr result (λ fault.
         Breaks (IsMakeDue pattern.now args.now) fault (W.contents out.old) (W.contents out.new)) }
-    ensures no_place { OnErr result (place.new ≡ None) }
     ensures room { IfErr result (RoomFillsOne (B.store patterns.old) (B.store patterns.new)
         (B.store bank.old) (B.store bank.new)) }
     ensures caps { ((B.store patterns.new).cap ≡ (B.store patterns.old).cap)
@@ -111,7 +84,7 @@ pub fn run_make_in<B: TermBank, W: Write>(
     ensures no_reader { IfErr result (λ fault. fault ≢ RunFault.Read) }
 {
     let mut output = Output::new(out);
-    make_in(alloc, patterns, bank, pattern, args, &mut output, place)
+    make_in(alloc, patterns, bank, pattern, args, &mut output)
 }
 
 /// The same to an output. It is asked no more once it refused.
@@ -122,17 +95,14 @@ fn make_in<B: TermBank, W: Write>(
     pattern: &[u8],
     args: &[u8],
     out: &mut Output<'_, W>,
-    place: &mut Option<Place>,
-) -> Result<Finish, RunFault>
+) -> Result<Ending, RunFault>
     requires { IsWritable out.old }
-    ensures output { IfOk result (λ finish.
-        Ends (IsMakeDue pattern.now args.now) finish (contents_of W.contents out.old)
+    ensures ends { IfOk result (λ ending.
+        Concludes (IsMakeDue pattern.now args.now) ending (contents_of W.contents out.old)
         (contents_of W.contents out.new)) }
-    ensures place { OnOk result (IsPlaced (IsMakeDue pattern.now args.now) place.new) }
     ensures fault { IfErr result (λ fault.
         Breaks (IsMakeDue pattern.now args.now) fault (contents_of W.contents out.old)
         (contents_of W.contents out.new)) }
-    ensures no_place { OnErr result (place.new ≡ None) }
     ensures room { IfErr result (RoomFillsOne (B.store patterns.old) (B.store patterns.new)
         (B.store bank.old) (B.store bank.new)) }
     ensures caps { ((B.store patterns.new).cap ≡ (B.store patterns.old).cap)
@@ -141,9 +111,8 @@ fn make_in<B: TermBank, W: Write>(
     ensures same { IsSameOutput out.old out.new }
     ensures cause { TellsWrite out.new result }
 {
-    *place = None;
     let reading = read_pattern_in(alloc, pattern, patterns)?;
-    make_over(alloc, reading, bank, pattern, args, out, place)
+    make_over(alloc, reading, bank, pattern, args, out)
 }
 
 /// A make over a bank of its own.
@@ -153,24 +122,20 @@ fn make_owned<B: TermBank + Drop, W: Write>(
     pattern: &[u8],
     args: &[u8],
     out: &mut Output<'_, W>,
-    place: &mut Option<Place>,
-) -> Result<Finish, RunFault>
-    requires no_place { place.old ≡ None }
-    requires open { IsWritable out.old }
-    ensures output { IfOk result (λ finish.
-        Ends (IsMakeDue pattern.now args.now) finish (contents_of W.contents out.old)
+) -> Result<Ending, RunFault>
+    requires { IsWritable out.old }
+    ensures ends { IfOk result (λ ending.
+        Concludes (IsMakeDue pattern.now args.now) ending (contents_of W.contents out.old)
         (contents_of W.contents out.new)) }
-    ensures place { OnOk result (IsPlaced (IsMakeDue pattern.now args.now) place.new) }
     ensures fault { IfErr result (λ fault.
         Breaks (IsMakeDue pattern.now args.now) fault (contents_of W.contents out.old)
         (contents_of W.contents out.new)) }
-    ensures no_place { OnErr result (place.new ≡ None) }
     ensures no_reader { IfErr result (λ fault. fault ≢ RunFault.Read) }
     ensures same { IsSameOutput out.old out.new }
     ensures cause { TellsWrite out.new result }
 {
     let reading = read_pattern(alloc, pattern)?;
-    make_over(alloc, reading, &mut bank, pattern, args, out, place)
+    make_over(alloc, reading, &mut bank, pattern, args, out)
 }
 
 /// A make over a bank, of a text that came to this pattern.
@@ -181,19 +146,15 @@ fn make_over<B: TermBank, W: Write>(
     pattern: &[u8],
     args: &[u8],
     out: &mut Output<'_, W>,
-    place: &mut Option<Place>,
-) -> Result<Finish, RunFault>
+) -> Result<Ending, RunFault>
     requires read { IsPatternRead pattern.now reading }
-    requires no_place { place.old ≡ None }
     requires open { IsWritable out.old }
-    ensures output { IfOk result (λ finish.
-        Ends (IsMakeDue pattern.now args.now) finish (contents_of W.contents out.old)
+    ensures ends { IfOk result (λ ending.
+        Concludes (IsMakeDue pattern.now args.now) ending (contents_of W.contents out.old)
         (contents_of W.contents out.new)) }
-    ensures place { OnOk result (IsPlaced (IsMakeDue pattern.now args.now) place.new) }
     ensures fault { IfErr result (λ fault.
         Breaks (IsMakeDue pattern.now args.now) fault (contents_of W.contents out.old)
         (contents_of W.contents out.new)) }
-    ensures no_place { OnErr result (place.new ≡ None) }
     ensures room { IfErr result (RoomFills (B.store bank.old) (B.store bank.new)) }
     ensures cap { (B.store bank.new).cap ≡ (B.store bank.old).cap }
     ensures no_reader { IfErr result (λ fault. fault ≢ RunFault.Read) }
@@ -201,5 +162,5 @@ fn make_over<B: TermBank, W: Write>(
     ensures cause { TellsWrite out.new result }
 {
     let answer = make_of_reading(alloc, reading, args, bank)?;
-    end_answer(alloc, bank, &answer, out, place)
+    end_answer(alloc, bank, &answer, out)
 }

@@ -1,12 +1,12 @@
 //! Runs on the text of one term: printing it, and counting its different parts.
 
-ghost use Rattle.std.specs.Prelude.{◌≡◌, ℕ, None, IfErr, IfOk, IfSome, IsSome, OnErr, OnOk};
+ghost use Rattle.std.specs.Prelude.{◌≡◌, ℕ, IfErr, IfOk, IfSome, IsSome, OnErr, OnOk};
 ghost use Rattle.rx_term.specs.Parts.{part_count};
 ghost use Rattle.rx_term.specs.Store.{tree_at};
 ghost use Rattle.rx_text.specs.Input.{IsReadable, IsSameInput, remaining_in};
 ghost use Rattle.rx_text.specs.Output.{IsSameOutput, IsWritable, TellsRefusal, Writes};
 ghost use Rattle.rx_text.specs.Output.{WritesFront, contents_of};
-ghost use Rattle.rx_run.specs.Run.{BreaksFor, EndsFor, IsPlacedFor, IsReadOut, RoomFills, Stops};
+ghost use Rattle.rx_run.specs.Run.{BreaksFor, ConcludesFor, IsReadOut, RoomFills, Stops};
 ghost use Rattle.rx_run.specs.Run.{StopsWriting};
 ghost use Rattle.rx_run.specs.Streams.{TellsRead, TellsWrite};
 ghost use Rattle.rx_run.specs.TermRuns.{
@@ -22,8 +22,8 @@ ghost use Rattle.rx_run.specs.TermRuns.{
   share_lines,
 };
 
-use crate::ending::{Finish, Place, RunFault};
-use crate::refusal::Reading;
+use crate::ending::RunFault;
+use crate::refusal::{Ending, Reading};
 use crate::term::reading::{MOST_CELLS, empty_bank, read_term};
 use crate::writing::{put_numbered_to, write_line_to, write_refusal_to};
 use rx_term::{Term, TermBank};
@@ -42,124 +42,74 @@ enum TermLines {
 
 /// Reads the text of a term, writes its printed text and a line end, and flushes; or the line of
 /// its refusal. What a fault leaves of the reader is open.
-pub fn run_aterm<R: Read, W: Write>(
+pub fn print_term<R: Read, W: Write>(
     alloc: Global,
     input: &mut R,
     out: &mut W,
-) -> Result<Finish, RunFault>
-    ensures output { IfOk result (λ finish. EndsFor IsTermDue (R.remaining input.old)
-        finish (W.contents out.old) (W.contents out.new)) }
+) -> Result<Ending, RunFault>
+    ensures ends { IfOk result (λ ending. ConcludesFor IsTermDue (R.remaining input.old)
+        ending (W.contents out.old) (W.contents out.new)) }
     ensures fault { IfErr result (λ fault. BreaksFor IsTermDue (R.remaining input.old)
         fault (W.contents out.old) (W.contents out.new)) }
-    ensures input_read { OnOk result (IsReadOut (R.remaining input.old) (R.remaining input.new)) }
-{
-    let mut place = None;
-    run_aterm_at(alloc, input, out, &mut place)
-}
-
-/// The same, with the place of the refusal that was written.
-pub fn run_aterm_at<R: Read, W: Write>(
-    alloc: Global,
-    input: &mut R,
-    out: &mut W,
-    place: &mut Option<Place>,
-) -> Result<Finish, RunFault>
-    ensures output { IfOk result (λ finish. EndsFor IsTermDue (R.remaining input.old)
-        finish (W.contents out.old) (W.contents out.new)) }
-    ensures place { OnOk result (IsPlacedFor IsTermDue (R.remaining input.old) place.new) }
-    ensures fault { IfErr result (λ fault. BreaksFor IsTermDue (R.remaining input.old)
-        fault (W.contents out.old) (W.contents out.new)) }
-    ensures no_place { OnErr result (place.new ≡ None) }
     ensures input_read { OnOk result (IsReadOut (R.remaining input.old) (R.remaining input.new)) }
 {
     let mut input = Input::new(input);
     let mut output = Output::new(out);
-    run_on_term(alloc, &mut input, &mut output, TermLines::Text, place)
+    run_on_term(alloc, &mut input, &mut output, TermLines::Text)
 }
 
 /// Reads the text of a term, writes its printed text and how many cells it takes, each with a line
 /// end, and flushes; or the line of its refusal. What a fault leaves of the reader is open.
-pub fn run_share<R: Read, W: Write>(
+pub fn share_term<R: Read, W: Write>(
     alloc: Global,
     input: &mut R,
     out: &mut W,
-) -> Result<Finish, RunFault>
-    ensures output { IfOk result (λ finish. EndsFor IsShareDue (R.remaining input.old)
-        finish (W.contents out.old) (W.contents out.new)) }
+) -> Result<Ending, RunFault>
+    ensures ends { IfOk result (λ ending. ConcludesFor IsShareDue (R.remaining input.old)
+        ending (W.contents out.old) (W.contents out.new)) }
     ensures fault { IfErr result (λ fault. BreaksFor IsShareDue (R.remaining input.old)
         fault (W.contents out.old) (W.contents out.new)) }
-    ensures input_read { OnOk result (IsReadOut (R.remaining input.old) (R.remaining input.new)) }
-{
-    let mut place = None;
-    run_share_at(alloc, input, out, &mut place)
-}
-
-/// The same, with the place of the refusal that was written.
-pub fn run_share_at<R: Read, W: Write>(
-    alloc: Global,
-    input: &mut R,
-    out: &mut W,
-    place: &mut Option<Place>,
-) -> Result<Finish, RunFault>
-    ensures output { IfOk result (λ finish. EndsFor IsShareDue (R.remaining input.old)
-        finish (W.contents out.old) (W.contents out.new)) }
-    ensures place { OnOk result (IsPlacedFor IsShareDue (R.remaining input.old) place.new) }
-    ensures fault { IfErr result (λ fault. BreaksFor IsShareDue (R.remaining input.old)
-        fault (W.contents out.old) (W.contents out.new)) }
-    ensures no_place { OnErr result (place.new ≡ None) }
     ensures input_read { OnOk result (IsReadOut (R.remaining input.old) (R.remaining input.new)) }
 {
     let mut input = Input::new(input);
     let mut output = Output::new(out);
-    run_on_term(
-        alloc,
-        &mut input,
-        &mut output,
-        TermLines::TextAndCells,
-        place,
-    )
+    run_on_term(alloc, &mut input, &mut output, TermLines::TextAndCells)
 }
 
-/// `run_aterm_at` over a bank, to which it brings terms and nothing else. Want of cells comes where
+/// `print_term` over a bank, to which it brings terms and nothing else. Want of cells comes where
 /// no cell is left.
 pub fn run_aterm_in<B: TermBank, R: Read, W: Write>(
     alloc: Global,
     bank: &mut B,
     input: &mut R,
     out: &mut W,
-    place: &mut Option<Place>,
-) -> Result<Finish, RunFault>
-    ensures output { IfOk result (λ finish. EndsFor IsTermDue (R.remaining input.old)
-        finish (W.contents out.old) (W.contents out.new)) }
-    ensures place { OnOk result (IsPlacedFor IsTermDue (R.remaining input.old) place.new) }
+) -> Result<Ending, RunFault>
+    ensures ends { IfOk result (λ ending. ConcludesFor IsTermDue (R.remaining input.old)
+        ending (W.contents out.old) (W.contents out.new)) }
     ensures fault { IfErr result (λ fault. BreaksFor IsTermDue (R.remaining input.old)
         fault (W.contents out.old) (W.contents out.new)) }
-    ensures no_place { OnErr result (place.new ≡ None) }
     ensures room { IfErr result (RoomFills (B.store bank.old) (B.store bank.new)) }
     ensures cap { (B.store bank.new).cap ≡ (B.store bank.old).cap }
     ensures input_read { OnOk result (IsReadOut (R.remaining input.old) (R.remaining input.new)) }
 {
     let mut input = Input::new(input);
     let mut output = Output::new(out);
-    run_over(alloc, bank, &mut input, &mut output, TermLines::Text, place)
+    run_over(alloc, bank, &mut input, &mut output, TermLines::Text)
 }
 
-/// `run_share_at` over a bank in which nothing is protected: where the text is a term's, the bank
+/// `share_term` over a bank in which nothing is protected: where the text is a term's, the bank
 /// keeps that term alone. Want of cells comes where no cell is left, before anything is given back.
 pub fn run_share_in<B: TermBank, R: Read, W: Write>(
     alloc: Global,
     bank: &mut B,
     input: &mut R,
     out: &mut W,
-    place: &mut Option<Place>,
-) -> Result<Finish, RunFault>
+) -> Result<Ending, RunFault>
     requires { (t : ℕ) → (B.store bank.old).roots t ≡ 0 }
-    ensures output { IfOk result (λ finish. EndsFor IsShareDue (R.remaining input.old)
-        finish (W.contents out.old) (W.contents out.new)) }
-    ensures place { OnOk result (IsPlacedFor IsShareDue (R.remaining input.old) place.new) }
+    ensures ends { IfOk result (λ ending. ConcludesFor IsShareDue (R.remaining input.old)
+        ending (W.contents out.old) (W.contents out.new)) }
     ensures fault { IfErr result (λ fault. BreaksFor IsShareDue (R.remaining input.old)
         fault (W.contents out.old) (W.contents out.new)) }
-    ensures no_place { OnErr result (place.new ≡ None) }
     ensures room { IfErr result (RoomFills (B.store bank.old) (B.store bank.new)) }
     ensures cap { (B.store bank.new).cap ≡ (B.store bank.old).cap }
     ensures input_read { OnOk result (IsReadOut (R.remaining input.old) (R.remaining input.new)) }
@@ -172,30 +122,25 @@ pub fn run_share_in<B: TermBank, R: Read, W: Write>(
         &mut input,
         &mut output,
         TermLines::TextAndCells,
-        place,
     )
 }
 
 /// Reads the text of a term, writes the lines that are asked for, and flushes; or the line of its
-/// refusal, whose place it gives.
+/// refusal.
 fn run_on_term<R: Read, W: Write>(
     alloc: Global,
     input: &mut Input<'_, R>,
     out: &mut Output<'_, W>,
     lines: TermLines,
-    place: &mut Option<Place>,
-) -> Result<Finish, RunFault>
+) -> Result<Ending, RunFault>
     requires readable { IsReadable input.old }
     requires writable { IsWritable out.old }
-    ensures output { IfOk result (λ finish. EndsFor (IsDueOf (lines_for lines))
-        (remaining_in R.remaining input.old) finish (contents_of W.contents out.old)
+    ensures ends { IfOk result (λ ending. ConcludesFor (IsDueOf (lines_for lines))
+        (remaining_in R.remaining input.old) ending (contents_of W.contents out.old)
         (contents_of W.contents out.new)) }
-    ensures place { OnOk result
-        (IsPlacedFor (IsDueOf (lines_for lines)) (remaining_in R.remaining input.old) place.new) }
     ensures fault { IfErr result (λ fault. BreaksFor (IsDueOf (lines_for lines))
         (remaining_in R.remaining input.old) fault (contents_of W.contents out.old)
         (contents_of W.contents out.new)) }
-    ensures no_place { OnErr result (place.new ≡ None) }
     ensures input_read { OnOk result (IsReadOut (remaining_in R.remaining input.old)
         (remaining_in R.remaining input.new)) }
     ensures same_input { IsSameInput input.old input.new }
@@ -203,9 +148,8 @@ fn run_on_term<R: Read, W: Write>(
     ensures read_cause { TellsRead input.new result }
     ensures write_cause { TellsWrite out.new result }
 {
-    *place = None;
     match empty_bank(alloc, MOST_CELLS) {
-        Ok(bank) => run_owned(alloc, bank, input, out, lines, place),
+        Ok(bank) => run_owned(alloc, bank, input, out, lines),
         Err(fault) => Err(fault),
     }
 }
@@ -217,20 +161,16 @@ fn run_owned<B: TermBank + Drop, R: Read, W: Write>(
     input: &mut Input<'_, R>,
     out: &mut Output<'_, W>,
     lines: TermLines,
-    place: &mut Option<Place>,
-) -> Result<Finish, RunFault>
+) -> Result<Ending, RunFault>
     requires unrooted { (t : ℕ) → (B.store bank).roots t ≡ 0 }
     requires readable { IsReadable input.old }
     requires writable { IsWritable out.old }
-    ensures output { IfOk result (λ finish. EndsFor (IsDueOf (lines_for lines))
-        (remaining_in R.remaining input.old) finish (contents_of W.contents out.old)
+    ensures ends { IfOk result (λ ending. ConcludesFor (IsDueOf (lines_for lines))
+        (remaining_in R.remaining input.old) ending (contents_of W.contents out.old)
         (contents_of W.contents out.new)) }
-    ensures place { OnOk result
-        (IsPlacedFor (IsDueOf (lines_for lines)) (remaining_in R.remaining input.old) place.new) }
     ensures fault { IfErr result (λ fault. BreaksFor (IsDueOf (lines_for lines))
         (remaining_in R.remaining input.old) fault (contents_of W.contents out.old)
         (contents_of W.contents out.new)) }
-    ensures no_place { OnErr result (place.new ≡ None) }
     ensures input_read { OnOk result (IsReadOut (remaining_in R.remaining input.old)
         (remaining_in R.remaining input.new)) }
     ensures same_input { IsSameInput input.old input.new }
@@ -238,7 +178,7 @@ fn run_owned<B: TermBank + Drop, R: Read, W: Write>(
     ensures read_cause { TellsRead input.new result }
     ensures write_cause { TellsWrite out.new result }
 {
-    run_over(alloc, &mut bank, input, out, lines, place)
+    run_over(alloc, &mut bank, input, out, lines)
 }
 
 /// The same over a bank, in which nothing is protected where its cells are counted.
@@ -248,20 +188,16 @@ fn run_over<B: TermBank, R: Read, W: Write>(
     input: &mut Input<'_, R>,
     out: &mut Output<'_, W>,
     lines: TermLines,
-    place: &mut Option<Place>,
-) -> Result<Finish, RunFault>
+) -> Result<Ending, RunFault>
     requires unrooted { IsUnrooted lines (B.store bank.old) }
     requires readable { IsReadable input.old }
     requires writable { IsWritable out.old }
-    ensures output { IfOk result (λ finish. EndsFor (IsDueOf (lines_for lines))
-        (remaining_in R.remaining input.old) finish (contents_of W.contents out.old)
+    ensures ends { IfOk result (λ ending. ConcludesFor (IsDueOf (lines_for lines))
+        (remaining_in R.remaining input.old) ending (contents_of W.contents out.old)
         (contents_of W.contents out.new)) }
-    ensures place { OnOk result
-        (IsPlacedFor (IsDueOf (lines_for lines)) (remaining_in R.remaining input.old) place.new) }
     ensures fault { IfErr result (λ fault. BreaksFor (IsDueOf (lines_for lines))
         (remaining_in R.remaining input.old) fault (contents_of W.contents out.old)
         (contents_of W.contents out.new)) }
-    ensures no_place { OnErr result (place.new ≡ None) }
     ensures room { IfErr result (RoomFills (B.store bank.old) (B.store bank.new)) }
     ensures cap { (B.store bank.new).cap ≡ (B.store bank.old).cap }
     ensures input_read { OnOk result (IsReadOut (remaining_in R.remaining input.old)
@@ -271,12 +207,10 @@ fn run_over<B: TermBank, R: Read, W: Write>(
     ensures read_cause { TellsRead input.new result }
     ensures write_cause { TellsWrite out.new result }
 {
-    *place = None;
     let reading = read_term(alloc, input, bank)?;
     write_due(alloc, bank, &reading, lines, out)?;
     out.flush()?;
-    *place = reading.place();
-    Ok(reading.finish())
+    Ok(reading.ending())
 }
 
 /// Writes what is due for what a text came to.

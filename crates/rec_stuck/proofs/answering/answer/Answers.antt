@@ -1,37 +1,14 @@
-use Rattle.std.proofs.Common.{IfOk, ◌≡◌, ◌≢◌, subst}
-use Rattle.rec_run.specs.Output.{shown_of}
-use Rattle.rec_run.specs.Depth.{HasRoomWithin, IsBounded, unbounded, unbounded_fault}
+use Rattle.rx_run.proofs.ReadDueLemmas.{appends_flushed, flush_refused}
 use Rattle.rec_run.specs.GivenTerms.{run_due}
-use Rattle.rec_run.specs.Run.{RoomExhausts}
-use Rattle.rec_run.proofs.DepthLemmas.{err_told, told_err}
-use Rattle.rec_run.proofs.RunEndLemmas.{ends_behind, err_behind, fault_behind, ok_behind}
-use Rattle.rx_run.specs.declared.ending.RunFault.TheVariants.{Read}
-use Rattle.rec_stuck.proofs.ToldLemmas.{on-behind}
+use Rattle.rec_run.specs.Output.{shown_of}
 use Rattle.rec_stuck.proofs.answering.answer.Goals as goal
 
-pub returns-clause-ends : goal.returns-clause-ends
-returns-clause-ends g c =
-    subst (λ f. IfOk (unbounded c.end_run.result) (λ x. x ≡ f)) c.finish-finish.ensures
-    (ends_behind _ _ _ c.write_due-written.result c.end_run.result c.end_run.ensures.ends)
-
-pub returns-clause-ok : goal.returns-clause-ok
-returns-clause-ok g c =
+pub returns-in-Ok-flush-clause-ok : goal.returns-in-Ok-flush-clause-ok
+returns-in-Ok-flush-clause-ok g c =
     let text = (run_due (g.B.TermBank.store c.args.bank) (shown_of c.args.settings) c.args.settings.options.steps c.args.reading).text in
-    ok_behind _ _ _ text _ c.write_due-written.result c.end_run.result c.end_run.ensures.ends c.write_due-written.ensures.ok
+    appends_flushed text _ _ _ c.in-Ok.ensures.ok c.in-Ok-flush.ensures.kept
 
-pub returns-clause-err : goal.returns-clause-err
-returns-clause-err g c =
+pub returns-in-Err-flush-clause-err : goal.returns-in-Err-flush-clause-err
+returns-in-Err-flush-clause-err g c =
     let text = (run_due (g.B.TermBank.store c.args.bank) (shown_of c.args.settings) c.args.settings.options.steps c.args.reading).text in
-    err_behind _ _ _ text _ c.write_due-written.result c.end_run.result c.end_run.ensures.ends c.write_due-written.ensures.ok c.write_due-written.ensures.err
-
-pub returns-clause-cells : goal.returns-clause-cells
-returns-clause-cells g c = λ refused.
-    fault_behind _ _ _ HasRoomWithin tt c.write_due-written.result c.end_run.result c.end_run.ensures.ends (c.write_due-written.ensures.cells refused)
-
-pub returns-clause-bounded : goal.returns-clause-bounded
-returns-clause-bounded g c =
-    fault_behind _ _ _ (IsBounded c.args.settings.depth) tt c.write_due-written.result c.end_run.result c.end_run.ensures.ends
-    c.write_due-written.ensures.bounded
-
-pub returns-clause-report : goal.returns-clause-report
-returns-clause-report g c = on-behind _ _ _ _ c.write_due-written.result c.end_run.result c.end_run.ensures.ends c.write_due-written.ensures.report
+    flush_refused text _ _ _ c.in-Ok.ensures.ok c.in-Err-flush.ensures.kept

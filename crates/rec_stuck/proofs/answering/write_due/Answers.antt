@@ -1,10 +1,7 @@
 use Rattle.std.proofs.Common.{subst}
 use Rattle.std.proofs.lemmas.Result.{IfErr-weaker}
-use Rattle.rec_run.specs.Depth.{unbounded_fault}
 use Rattle.rec_run.specs.GivenTerms.{IsRefused}
-use Rattle.rec_run.specs.Run.{RoomExhausts}
-use Rattle.rec_run.proofs.DepthLemmas.{room_told, told_err, write-within}
-use Rattle.rec_run.proofs.FaultLemmas.{has_room_exhausts}
+use Rattle.rec_run.proofs.DepthLemmas.{write-within}
 use Rattle.std.proofs.Common.{◌≡◌, ◌++◌, append-nil, sym}
 use Rattle.rx_run.proofs.ErrorLemmas.{on_ok_any}
 use Rattle.rx_run.specs.declared.refusal.Reading.{Reading}

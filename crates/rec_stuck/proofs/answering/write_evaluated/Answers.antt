@@ -1,12 +1,9 @@
-use Rattle.std.proofs.Common.{IfErr, ap, subst, sym, ◌∙◌}
-use Rattle.std.proofs.lemmas.Result.{IfErr-weaker}
+use Rattle.std.proofs.Common.{ap, subst, sym, ◌∙◌}
 use Rattle.rec_run.specs.GivenTerms.{given_by}
 use Rattle.rec_run.specs.EvaluatedLines.{ProtectsTerms}
 use Rattle.rec_run.specs.Output.{lines, shown_of}
 use Rattle.rec_run.specs.Depth.{unbounded}
-use Rattle.rec_run.specs.Run.{RoomExhausts}
 use Rattle.rec_run.proofs.EvaluatedLemmas.{stops_unwritten}
-use Rattle.rec_run.proofs.FaultLemmas.{lacks_exhausts}
 use Rattle.rec_syntax.specs.Syntax.{Spec}
 use Rattle.rec_stuck.specs.Inner.Calls.{AreSpots}
 use Rattle.std.proofs.Common.{◌++◌, refl}

@@ -1,4 +1,4 @@
-use Rattle.std.proofs.Common.{◌≡◌, ◌++◌, ◌∷◌, ◌+◌, ◌<◌, [], ◌∙◌, ap, arith, length, refl, subst, sym}
+use Rattle.std.proofs.Common.{◌≡◌, ◌++◌, ◌∷◌, [], ◌∙◌, ap, arith}
 use Rattle.rec_stuck.specs.declared.applications.Visit.{Visit}
 use Rattle.rec_stuck.specs.declared.applications.Visit.TheVariants.{Enter, Leave}
 use Rattle.rec_stuck.proofs.VisitLemmas.{entered-can, entered-fewer, last-can, others-can, others-fewer, there-inserted, walked-in, walked-left}

@@ -2,9 +2,9 @@ use Rattle.std.proofs.Common.{ap, is_some, refl, subst, sym}
 use Rattle.std.specs.Prelude.{IfErr, OnOk, ◌++◌, codes}
 use Rattle.std.specs.Io.KnownBytes.{Appends}
 use Rattle.rx_text.specs.Written.{AppendsFront}
-use Rattle.rec_run.specs.EvaluatedLines.{TellsLine, LineLacks, due_before}
+use Rattle.rec_run.specs.EvaluatedLines.{TellsLine, due_before}
 use Rattle.rec_run.specs.Depth.{unbounded_line}
-use Rattle.rec_run.proofs.DepthLemmas.{err_same, gave_up-deep, gave_up-no_write, gave_up-room, line-deep, line-ok, line-room, line-told}
+use Rattle.rec_run.proofs.DepthLemmas.{err_same, gave_up-deep, gave_up-no_write, line-deep, line-ok, line-told}
 use Rattle.rec_run.proofs.EvaluatedLemmas.{answered-line, there_for}
 use Rattle.std.proofs.Common.{◌∙◌}
 use Rattle.rx_run.proofs.ErrorLemmas.{on_ok_of}

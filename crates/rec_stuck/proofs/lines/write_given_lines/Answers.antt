@@ -15,11 +15,11 @@ use Rattle.rec_run.specs.EvaluatedLines.{due_before, fault_after}
 use Rattle.rec_run.specs.GivenTerms.{given_at, given_text}
 use Rattle.rec_run.specs.Output.{shown_of}
 use Rattle.rx_run.specs.Run.{StopsAfter}
-use Rattle.rec_run.proofs.EvaluatedLemmas.{held_no_ends, lines_stopped_after, fault_after-same, line_lacks, same_engine_both}
+use Rattle.rec_run.proofs.EvaluatedLemmas.{held_no_ends, lines_stopped_after, fault_after-same, same_engine_both}
 use Rattle.rec_run.proofs.GivenListLemmas.{FrontAt, fewer_items, front_stays, front_there, no_front, others_later}
 use Rattle.rec_stuck.proofs.FrontLemmas.{front-line}
 use Rattle.rx_run.proofs.LineFrontLemmas.{appends_all, appends_more, lines_of}
-use Rattle.rec_run.proofs.EvaluatedLemmas.{after_read, after_write}
+use Rattle.rec_run.proofs.EvaluatedLemmas.{after_write}
 use Rattle.rec_run.specs.Depth.{unbounded_fault, unbounded_line_fault}
 use Rattle.rec_run.specs.declared.spec.lines.LineFault.{LineFault}
 use Rattle.rec_run.proofs.DepthLemmas.{after-deep, after-told}

@@ -2,7 +2,6 @@ use Rattle.std.proofs.Common.{◌≡◌, ℕ, ◌++◌, ◌<◌, ◌^◌, Bool, 
 use Rattle.std.specs.Io.KnownBytes.{Appends}
 use Rattle.std.proofs.lemmas.Result.{IfErr-weaker}
 use Rattle.rx_term.specs.Steps.{Keeps}
-use Rattle.rx_term.proofs.KeepLemmas.{Keeps-trans}
 use Rattle.rx_term.specs.Store.{Store}
 use Rattle.rx_term.specs.declared.Term.{Term as Reference}
 use Rattle.rec_syntax.specs.Syntax.{Spec}
@@ -13,7 +12,7 @@ use Rattle.rec_run.specs.Output.{bare, lines, shown_by}
 use Rattle.rec_run.specs.declared.options.LimitLines.{LimitLines}
 use Rattle.rx_run.specs.Run.{Stops}
 use Rattle.rx_run.specs.declared.ending.RunFault.{RunFault}
-use Rattle.rec_run.proofs.EvaluatedLemmas.{same_engine_both, same_terms, still_protects}
+use Rattle.rec_run.proofs.EvaluatedLemmas.{same_terms, still_protects}
 use Rattle.rx_run.proofs.LineFrontLemmas.{stops_before, stops_behind}
 use Rattle.rec_run.proofs.SpecLineLemmas.{lines-any, lines-both, newlines-own}
 use Rattle.rx_text.proofs.AppendingLemmas.{appends_both}

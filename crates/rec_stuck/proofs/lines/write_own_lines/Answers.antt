@@ -9,10 +9,10 @@ use Rattle.rec_run.specs.EvaluatedLines.{due_before, fault_after}
 use Rattle.rec_run.specs.Output.{bare, lines}
 use Rattle.rec_run.specs.Reading.{line_text, text_at}
 use Rattle.rx_run.specs.Run.{Stops}
-use Rattle.rec_run.proofs.EvaluatedLemmas.{lines_stopped, fault_after-same, line_lacks, same_engine_both}
+use Rattle.rec_run.proofs.EvaluatedLemmas.{lines_stopped, fault_after-same, same_engine_both}
 use Rattle.rx_run.proofs.LineFrontLemmas.{appends_all, appends_more}
 use Rattle.rec_run.proofs.SpecLineLemmas.{line_text-newlines, lines-own}
-use Rattle.rec_run.proofs.EvaluatedLemmas.{after_read, after_write}
+use Rattle.rec_run.proofs.EvaluatedLemmas.{after_write}
 use Rattle.rec_run.specs.Depth.{unbounded_fault, unbounded_line_fault}
 use Rattle.rec_run.specs.declared.spec.lines.LineFault.{LineFault}
 use Rattle.rec_run.proofs.DepthLemmas.{after-deep, after-told}

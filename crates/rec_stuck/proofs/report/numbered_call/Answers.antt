@@ -1,4 +1,4 @@
-use Rattle.std.proofs.Common.{refl, subst, sym, ap, arith}
+use Rattle.std.proofs.Common.{refl, subst, arith}
 use Rattle.rx_term.specs.Store.{arity_at}
 use Rattle.std.specs.Prelude.{◌≡◌, ◌≤◌, ◌<◌, Some, length}
 use Rattle.rec_stuck.proofs.CallLemmas.{a-call, constructor-number}

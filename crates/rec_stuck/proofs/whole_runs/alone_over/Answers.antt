@@ -1,38 +1,28 @@
-use Rattle.std.proofs.Common.{refl}
 use Rattle.rec_run.specs.Output.{shown_of}
 use Rattle.rec_run.specs.Depth.{unbounded}
 use Rattle.rec_run.specs.GivenTerms.{job_lines}
 use Rattle.rec_run.specs.Run.{IsDueFor}
 use Rattle.rx_run.proofs.ErrorLemmas.{on_ok_any}
 use Rattle.rx_run.proofs.FaultLemmas.{reports_reading}
-use Rattle.rec_run.proofs.FaultLemmas.{has_room_exhausts, reading_has_room}
+use Rattle.rec_run.proofs.FaultLemmas.{reading_has_room}
 use Rattle.rec_run.proofs.GivenDueLemmas.{refused_any, refused_map}
-use Rattle.rx_run.proofs.ReadDueLemmas.{breaks_by, ends_by, placed_by}
+use Rattle.rx_run.proofs.ReadDueLemmas.{breaks_by, concludes_by}
 use Rattle.rx_run.proofs.WholeRunLemmas.{breaks_unwritten}
 use Rattle.rec_run.proofs.WholeRunLemmas.{due_for, one_due_for}
-use Rattle.rx_run.proofs.StreamLemmas.{read_over}
 use Rattle.rec_stuck.proofs.ToldLemmas.{tells-by}
 use Rattle.rec_stuck.proofs.whole_runs.alone_over.Goals as goal
 
 pub answer-requires-clause-ready : goal.answer-requires-clause-ready
 answer-requires-clause-ready g c = c.in-Ok.ensures.ready (g.B.TermBank.store c.args.bank)
 
-pub returns-in-Ok-clause-output : goal.returns-in-Ok-clause-output
-returns-in-Ok-clause-output g c =
+pub returns-in-Ok-clause-ends : goal.returns-in-Ok-clause-ends
+returns-in-Ok-clause-ends g c =
     let shown = shown_of c.args.settings in
     let n = c.args.settings.options.steps in
     let w = g.B.TermBank.store c.args.bank in
     let r = c.in-Ok.reading in
-    ends_by (IsDueFor shown n) (job_lines w shown n) _ r (unbounded c.answer.result) _ _ (due_for w shown n _ r (c.in-Ok.ensures.due w))
+    concludes_by (IsDueFor shown n) (job_lines w shown n) _ r (unbounded c.answer.result) _ _ (due_for w shown n _ r (c.in-Ok.ensures.due w))
     c.answer.ensures.ends c.answer.ensures.ok
-
-pub returns-in-Ok-clause-place : goal.returns-in-Ok-clause-place
-returns-in-Ok-clause-place g c =
-    let shown = shown_of c.args.settings in
-    let n = c.args.settings.options.steps in
-    let w = g.B.TermBank.store c.args.bank in
-    let r = c.in-Ok.reading in
-    placed_by (IsDueFor shown n) (job_lines w shown n) _ r (unbounded c.answer.result) _ (due_for w shown n _ r (c.in-Ok.ensures.due w)) c.answer.ensures.place
 
 pub returns-in-Ok-clause-fault : goal.returns-in-Ok-clause-fault
 returns-in-Ok-clause-fault g c =

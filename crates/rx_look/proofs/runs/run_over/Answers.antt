@@ -2,7 +2,7 @@ use Rattle.rx_look.specs.Due.{lines_for}
 use Rattle.rx_look.specs.declared.ending.LookFault.TheVariants.{Write}
 use Rattle.rx_run.specs.TermRuns.{IsDueOf, due_at, lines_at}
 use Rattle.rx_run.proofs.ErrorLemmas.{if_err_at}
-use Rattle.rx_run.proofs.ReadDueLemmas.{ends_read, placed_read}
+use Rattle.rx_run.proofs.ReadDueLemmas.{concludes_read}
 use Rattle.rx_run.proofs.TermDueLemmas.{given_due, one_due_of}
 use Rattle.rx_look.proofs.RunLemmas.{still_unrooted}
 use Rattle.rx_look.proofs.FaultLemmas.{breaks_due, breaks_unwritten, reports_unwritten, stops_flush}
@@ -38,17 +38,10 @@ returns-in_err-flush-clause-fault g c =
     (breaks_due (IsDueOf lines) (one_due_of lines) _ (due_at lines w r) Write _ _ (given_due lines _ w r c.in_ok-reading.ensures.read)
     (stops_flush (due_at lines w r).text _ _ _ c.in_ok-write_due.ensures.ok c.in_err-flush.ensures.kept))
 
-pub returns-clause-output : goal.returns-clause-output
-returns-clause-output g c =
+pub returns-clause-ends : goal.returns-clause-ends
+returns-clause-ends g c =
     let lines = lines_for c.args.look in
     let w = g.B.TermBank.store c.read_term.new.bank in
     let r = c.in_ok-reading.reading in
-    ends_read (IsDueOf lines) (lines_at lines w) _ r _ _ _ _ (given_due lines _ w r c.in_ok-reading.ensures.read) c.finish.ensures
+    concludes_read (IsDueOf lines) (lines_at lines w) _ r _ _ _ _ (given_due lines _ w r c.in_ok-reading.ensures.read) c.ending.ensures
     c.in_ok-write_due.ensures.ok c.in_ok-flush.ensures.kept
-
-pub returns-clause-place : goal.returns-clause-place
-returns-clause-place g c =
-    let lines = lines_for c.args.look in
-    let w = g.B.TermBank.store c.read_term.new.bank in
-    let r = c.in_ok-reading.reading in
-    placed_read (IsDueOf lines) (lines_at lines w) _ r _ (given_due lines _ w r c.in_ok-reading.ensures.read) c.place.ensures

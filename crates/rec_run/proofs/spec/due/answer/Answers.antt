@@ -10,7 +10,7 @@ use Rattle.rec_run.proofs.spec.due.answer.Goals as goal
 
 pub returns-clause-ends : goal.returns-clause-ends
 returns-clause-ends g c =
-    subst (λ f. IfOk (unbounded c.end_run.result) (λ x. x ≡ f)) c.finish-finish.ensures
+    subst (λ f. IfOk (unbounded c.end_run.result) (λ x. x ≡ f)) c.ending-ending.ensures
     (ends_behind _ _ _ c.write_due-written.result.written c.end_run.result c.end_run.ensures.ends)
 
 pub returns-clause-ok : goal.returns-clause-ok

@@ -6,13 +6,14 @@ pub returns-in-Some-clause-deep : goal.returns-in-Some-clause-deep
 returns-in-Some-clause-deep g c = deep_for _ c.in-Some.depth c.args.depth c.normalise_within.result c.in-Some.is c.normalise_within.ensures.deep
 
 pub returns-in-None-clause-outcome : goal.returns-in-None-clause-outcome
-returns-in-None-clause-outcome g c = engine-ok _ c.normalise.result c.answered.result c.answered.ensures c.normalise.ensures.outcome
+returns-in-None-clause-outcome g c = engine-ok _ c.normalise.result c.engine_answer.result c.engine_answer.ensures c.normalise.ensures.outcome
 
 pub returns-in-None-clause-kept : goal.returns-in-None-clause-kept
-returns-in-None-clause-kept g c = engine-ok (IsKept c.normalise.new.self.work) c.normalise.result c.answered.result c.answered.ensures c.normalise.ensures.kept
+returns-in-None-clause-kept g c = engine-ok (IsKept c.normalise.new.self.work) c.normalise.result c.engine_answer.result c.engine_answer.ensures
+    c.normalise.ensures.kept
 
 pub returns-in-None-clause-room : goal.returns-in-None-clause-room
-returns-in-None-clause-room g c = engine-room _ _ _ c.normalise.result c.answered.result c.answered.ensures c.normalise.ensures.room
+returns-in-None-clause-room g c = engine-room _ _ _ c.normalise.result c.engine_answer.result c.engine_answer.ensures c.normalise.ensures.room
 
 pub returns-in-None-clause-deep : goal.returns-in-None-clause-deep
-returns-in-None-clause-deep g c = engine-deep _ c.args.depth c.normalise.result c.answered.result c.answered.ensures
+returns-in-None-clause-deep g c = engine-deep _ c.args.depth c.normalise.result c.engine_answer.result c.engine_answer.ensures

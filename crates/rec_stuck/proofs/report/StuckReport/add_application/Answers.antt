@@ -1,4 +1,4 @@
-use Rattle.std.proofs.Common.{◌≡◌, ◌++◌, IsSome, ap, append-nil, subst, sym, ◌∙◌}
+use Rattle.std.proofs.Common.{◌++◌, IsSome, ap, append-nil, subst, sym, ◌∙◌}
 use Rattle.std.specs.Prelude.{Option}
 use Rattle.rx_term.specs.Store.{tree_at}
 use Rattle.rx_term.specs.Walks.{held_tree}

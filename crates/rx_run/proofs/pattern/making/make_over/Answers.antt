@@ -5,7 +5,7 @@ use Rattle.rx_run.specs.Inner.PatternAnswers.{answer_lines}
 use Rattle.rx_run.proofs.FaultLemmas.{no_reader_writing, reports_ran_out, room_ran_out, room_writing, unwritten}
 use Rattle.rx_run.proofs.ErrorLemmas.{if_err_at}
 use Rattle.rx_run.proofs.PatternDueLemmas.{same_due}
-use Rattle.rx_run.proofs.ReadDueLemmas.{breaks_by, ends_by, placed_by}
+use Rattle.rx_run.proofs.ReadDueLemmas.{breaks_by, concludes_by}
 use Rattle.rx_run.proofs.WholeRunLemmas.{breaks_unwritten}
 use Rattle.rx_run.proofs.StreamLemmas.{unwritten_unrefused, write_on}
 use Rattle.rx_run.proofs.pattern.making.make_over.Goals as goal
@@ -25,17 +25,11 @@ returns-in_err-answer-clause-room g c =
     let f = c.in_err-answer.field-0.0 in
     if_err_at c.from_residual.result _ f c.from_residual.ensures.1 (room_ran_out old new f c.in_err-answer.ensures.fault)
 
-pub returns-clause-output : goal.returns-clause-output
-returns-clause-output g c =
+pub returns-clause-ends : goal.returns-clause-ends
+returns-clause-ends g c =
     let w = g.B.TermBank.store c.make_of_reading.new.bank in
-    ends_by (IsMakeDue c.args.pattern.now) (answer_lines w) (Some c.args.args.now) c.in_ok-answer.answer c.end_answer.result _ _
+    concludes_by (IsMakeDue c.args.pattern.now) (answer_lines w) (Some c.args.args.now) c.in_ok-answer.answer c.end_answer.result _ _
     (c.in_ok-answer.ensures.due c.args.pattern.now c.requires.read) c.end_answer.ensures.ends c.end_answer.ensures.ok
-
-pub returns-clause-place : goal.returns-clause-place
-returns-clause-place g c =
-    let w = g.B.TermBank.store c.make_of_reading.new.bank in
-    placed_by (IsMakeDue c.args.pattern.now) (answer_lines w) (Some c.args.args.now) c.in_ok-answer.answer c.end_answer.result _
-    (c.in_ok-answer.ensures.due c.args.pattern.now c.requires.read) c.end_answer.ensures.place
 
 pub returns-clause-fault : goal.returns-clause-fault
 returns-clause-fault g c =

@@ -4,7 +4,7 @@ use Rattle.rx_run.specs.Inner.PatternAnswers.{answer_lines}
 use Rattle.rx_run.proofs.FaultLemmas.{reports_unwritten, room_unwritten, room_writing}
 use Rattle.rx_run.proofs.ErrorLemmas.{if_err_at, on_ok_any}
 use Rattle.rx_run.proofs.PatternDueLemmas.{same_due}
-use Rattle.rx_run.proofs.ReadDueLemmas.{breaks_by, ends_by, placed_by}
+use Rattle.rx_run.proofs.ReadDueLemmas.{breaks_by, concludes_by}
 use Rattle.rx_run.proofs.WholeRunLemmas.{breaks_unwritten}
 use Rattle.rx_run.proofs.StreamLemmas.{read_writing, unwritten_unrefused, write_on}
 use Rattle.rx_run.proofs.pattern.runs.match_over.Goals as goal
@@ -28,17 +28,11 @@ returns-in_err-answer-clause-room g c =
 pub returns-in_err-answer-clause-unread : goal.returns-in_err-answer-clause-unread
 returns-in_err-answer-clause-unread g c = c.in_err-answer.ensures.unread c.args.pattern.now c.requires.read
 
-pub returns-clause-output : goal.returns-clause-output
-returns-clause-output g c =
+pub returns-clause-ends : goal.returns-clause-ends
+returns-clause-ends g c =
     let w = g.B.TermBank.store c.match_reading.new.bank in
-    ends_by (IsMatchDue c.args.pattern.now) (answer_lines w) (g.R.Read.remaining c.args.input.now.reader.now) c.in_ok-answer.answer
+    concludes_by (IsMatchDue c.args.pattern.now) (answer_lines w) (g.R.Read.remaining c.args.input.now.reader.now) c.in_ok-answer.answer
     c.end_answer.result _ _ (c.in_ok-answer.ensures.due c.args.pattern.now c.requires.read) c.end_answer.ensures.ends c.end_answer.ensures.ok
-
-pub returns-clause-place : goal.returns-clause-place
-returns-clause-place g c =
-    let w = g.B.TermBank.store c.match_reading.new.bank in
-    placed_by (IsMatchDue c.args.pattern.now) (answer_lines w) (g.R.Read.remaining c.args.input.now.reader.now) c.in_ok-answer.answer
-    c.end_answer.result _ (c.in_ok-answer.ensures.due c.args.pattern.now c.requires.read) c.end_answer.ensures.place
 
 pub returns-clause-fault : goal.returns-clause-fault
 returns-clause-fault g c =

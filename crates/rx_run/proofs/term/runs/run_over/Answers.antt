@@ -2,7 +2,7 @@ use Rattle.rx_run.specs.TermRuns.{IsDueOf, lines_at, lines_for}
 use Rattle.rx_run.specs.declared.ending.RunFault.TheVariants.{Write}
 use Rattle.rx_run.proofs.FaultLemmas.{no_reader_writing, reports_unwritten, room_unwritten, room_writing}
 use Rattle.rx_run.proofs.ErrorLemmas.{if_err_at}
-use Rattle.rx_run.proofs.ReadDueLemmas.{breaks_flush, breaks_read, ends_read, placed_read}
+use Rattle.rx_run.proofs.ReadDueLemmas.{breaks_flush, breaks_read, concludes_read}
 use Rattle.rx_run.proofs.TermDueLemmas.{given_due, given_held, one_due_of, still_unrooted}
 use Rattle.rx_run.proofs.StreamLemmas.{read_on, unwritten_unrefused, write_on}
 use Rattle.rx_run.proofs.WholeRunLemmas.{breaks_unwritten}
@@ -58,20 +58,13 @@ returns-in_err-flush-clause-fault g c =
     (breaks_flush (IsDueOf lines) (lines_at lines w) (one_due_of lines) _ r _ _ _ (given_due lines _ w r c.in_ok-reading.ensures.read)
     c.in_ok-write_due.ensures.ok c.in_err-flush.ensures.kept)
 
-pub returns-clause-output : goal.returns-clause-output
-returns-clause-output g c =
+pub returns-clause-ends : goal.returns-clause-ends
+returns-clause-ends g c =
     let lines = lines_for c.args.lines in
     let w = g.B.TermBank.store c.read_term.new.bank in
     let r = c.in_ok-reading.reading in
-    ends_read (IsDueOf lines) (lines_at lines w) _ r _ _ _ _ (given_due lines _ w r c.in_ok-reading.ensures.read) c.finish.ensures
+    concludes_read (IsDueOf lines) (lines_at lines w) _ r _ _ _ _ (given_due lines _ w r c.in_ok-reading.ensures.read) c.ending.ensures
     c.in_ok-write_due.ensures.ok c.in_ok-flush.ensures.kept
-
-pub returns-clause-place : goal.returns-clause-place
-returns-clause-place g c =
-    let lines = lines_for c.args.lines in
-    let w = g.B.TermBank.store c.read_term.new.bank in
-    let r = c.in_ok-reading.reading in
-    placed_read (IsDueOf lines) (lines_at lines w) _ r _ (given_due lines _ w r c.in_ok-reading.ensures.read) c.place.ensures
 
 pub returns-in_err-reading-clause-write_cause : goal.returns-in_err-reading-clause-write_cause
 returns-in_err-reading-clause-write_cause g c =

@@ -1,0 +1,42 @@
+use Rattle.std.proofs.Common.{◌++◌, subst}
+use Rattle.rx_run.proofs.ErrorLemmas.{if_err_at}
+use Rattle.rec_trace.specs.Lines.{joined}
+use Rattle.rec_trace.specs.Tracing.{rest_of}
+use Rattle.rec_look.specs.Inner.Pages.{Breaks, Prints}
+use Rattle.rec_look.specs.Picks.{front_lines, last_lines}
+use Rattle.rec_look.specs.Inner.Telling.{end_line}
+use Rattle.rec_look.specs.Traces.{picked_lines, shown_by}
+use Rattle.rec_look.proofs.FiringLemmas.{steps-parts, told-parts}
+use Rattle.rec_look.proofs.PageLemmas.{breaks-before, breaks-behind, prints-both}
+use Rattle.rec_look.proofs.firings.write_firings.Goals as goal
+
+pub returns-in_err-write_kept-clause-err : goal.returns-in_err-write_kept-clause-err
+returns-in_err-write_kept-clause-err g c =
+    let rest = rest_of c.args.engine.now.spec (g.B.TermBank.store c.args.engine.now.bank) c.args.tracer.now in
+    let shown = shown_by c.args.telling.now.options in
+    let n = c.args.telling.now.options.run.steps in
+    let out1 = c.write_steps.new.out in
+    let out2 = c.write_kept.new.out in
+    let lines1 = c.write_steps.new.lines in
+    let fault = c.in_err-write_kept.field-0.0 in
+    if_err_at c.from_residual-in_err-write_kept.result _ fault c.from_residual-in_err-write_kept.ensures.1
+    (λ source notes is.
+    let ls = picked_lines source shown n rest.firings in
+    let end = end_line shown.counted n notes rest.outcome in
+    subst (λ text. Breaks g.W.Write.contents c.args.out.now out2 c.args.lines.now text fault) (told-parts source shown n notes rest)
+    (breaks-behind g.W.Write.contents c.args.out.now out1 out2 c.args.lines.now lines1 (joined (front_lines shown.picked ls))
+    (joined (last_lines shown.picked ls) ++ end) fault (c.in_ok-outcome.ensures.ok source is)
+    (breaks-before g.W.Write.contents out1 out2 lines1 (joined (last_lines shown.picked ls)) end fault
+    (c.in_err-write_kept.ensures.err shown.picked ls (c.in_ok-outcome.ensures.kept_on source is)))))
+
+pub returns-clause-ok : goal.returns-clause-ok
+returns-clause-ok g c =
+    let rest = rest_of c.args.engine.now.spec (g.B.TermBank.store c.args.engine.now.bank) c.args.tracer.now in
+    let shown = shown_by c.args.telling.now.options in
+    let n = c.args.telling.now.options.run.steps in
+    λ source is.
+    let ls = picked_lines source shown n rest.firings in
+    subst (λ text. Prints g.W.Write.contents c.args.out.now c.write_kept.new.out c.args.lines.now c.write_kept.new.lines text) (steps-parts source shown n rest)
+    (prints-both g.W.Write.contents c.args.out.now c.write_steps.new.out c.write_kept.new.out c.args.lines.now c.write_steps.new.lines
+    c.write_kept.new.lines (joined (front_lines shown.picked ls)) (joined (last_lines shown.picked ls)) (c.in_ok-outcome.ensures.ok source is)
+    (c.in_ok-write_kept.ensures.ok shown.picked ls (c.in_ok-outcome.ensures.kept_on source is)))

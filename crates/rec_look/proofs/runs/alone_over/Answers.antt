@@ -1,0 +1,43 @@
+use Rattle.rec_look.specs.Inner.Due.{job_traces}
+use Rattle.rec_look.specs.Traces.{IsTraceDueFor, shown_by}
+use Rattle.rx_run.proofs.ErrorLemmas.{on_ok_any}
+use Rattle.rx_run.proofs.FaultLemmas.{reports_reading}
+use Rattle.rx_run.proofs.ReadDueLemmas.{breaks_by, concludes_by}
+use Rattle.rx_run.proofs.WholeRunLemmas.{breaks_unwritten}
+use Rattle.rec_run.proofs.FaultLemmas.{reading_has_room}
+use Rattle.rec_look.proofs.DueLemmas.{due_for, one_trace_due_for, refused_any, refused_map}
+use Rattle.rec_look.proofs.runs.alone_over.Goals as goal
+
+pub answer-requires-clause-ready : goal.answer-requires-clause-ready
+answer-requires-clause-ready g c = c.in-Ok.ensures.ready (g.B.TermBank.store c.args.bank)
+
+pub returns-in-Ok-clause-ends : goal.returns-in-Ok-clause-ends
+returns-in-Ok-clause-ends g c =
+    let shown = shown_by c.args.options in
+    let n = c.args.options.run.steps in
+    let w = g.B.TermBank.store c.args.bank in
+    let r = c.in-Ok.reading in
+    concludes_by (IsTraceDueFor shown n) (job_traces w shown n) _ r c.answer.result _ _ (due_for w shown n _ r (c.in-Ok.ensures.due w))
+    c.answer.ensures.ends c.answer.ensures.ok
+
+pub returns-in-Ok-clause-fault : goal.returns-in-Ok-clause-fault
+returns-in-Ok-clause-fault g c =
+    let shown = shown_by c.args.options in
+    let n = c.args.options.run.steps in
+    let w = g.B.TermBank.store c.args.bank in
+    let r = c.in-Ok.reading in
+    breaks_by (IsTraceDueFor shown n) (job_traces w shown n) (one_trace_due_for shown n) _ r c.answer.result _ _
+    (due_for w shown n _ r (c.in-Ok.ensures.due w)) c.answer.ensures.err
+
+pub returns-in-Ok-clause-cells : goal.returns-in-Ok-clause-cells
+returns-in-Ok-clause-cells g c = refused_map _ c.answer.ensures.cells c.in-Ok.ensures.refused
+
+pub returns-in-Ok-clause-spec_read : goal.returns-in-Ok-clause-spec_read
+returns-in-Ok-clause-spec_read g c = on_ok_any c.answer.result c.in-Ok.ensures.out
+
+pub returns-in-Err-clause-fault : goal.returns-in-Err-clause-fault
+returns-in-Err-clause-fault g c = breaks_unwritten (IsTraceDueFor (shown_by c.args.options) c.args.options.run.steps) _ c.in-Err.fault _
+    (reports_reading c.in-Err.fault c.in-Err.ensures.fault)
+
+pub returns-in-Err-clause-cells : goal.returns-in-Err-clause-cells
+returns-in-Err-clause-cells g c = refused_any _ (reading_has_room c.in-Err.fault c.in-Err.ensures.fault)

@@ -1,0 +1,16 @@
+use Rattle.std.proofs.Common.{refl}
+use Rattle.rec_look.specs.Traces.{IsTraceDueFor, shown_by}
+use Rattle.rec_run.proofs.FaultLemmas.{memory_has_room}
+use Rattle.rx_run.proofs.WholeRunLemmas.{breaks_unwritten}
+use Rattle.rec_look.proofs.DueLemmas.{refused_any}
+use Rattle.rec_look.proofs.runs.alone_to.Goals as goal
+
+pub alone_over-requires-clause-unrooted : goal.alone_over-requires-clause-unrooted
+alone_over-requires-clause-unrooted g c = c.in-Ok.ensures.empty.2
+
+pub returns-in-Err-clause-fault : goal.returns-in-Err-clause-fault
+returns-in-Err-clause-fault g c = breaks_unwritten (IsTraceDueFor (shown_by c.args.options) c.args.options.run.steps) _ c.in-Err.fault _
+    (rw c.in-Err.ensures.fault refl)
+
+pub returns-in-Err-clause-cells : goal.returns-in-Err-clause-cells
+returns-in-Err-clause-cells g c = refused_any _ (memory_has_room c.in-Err.fault c.in-Err.ensures.fault)

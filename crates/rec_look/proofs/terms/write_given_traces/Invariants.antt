@@ -1,0 +1,19 @@
+use Rattle.std.proofs.Common.{ℕ, List, take}
+use Rattle.rx_term.specs.Tree.{Tree}
+use Rattle.rx_text.specs.Output.{IsSameOutput, IsWritable}
+use Rattle.rec_engine.specs.Engine.{SameEngine}
+use Rattle.rec_look.specs.Inner.Pages.{Prints}
+use Rattle.rec_look.specs.Inner.Telling.{AreGivenTerms, IsTelling, given_traces}
+use Rattle.rec_look.specs.Traces.{shown_by}
+use Rattle.rec_look.proofs.terms.write_given_traces.Given as goal
+
+-- the traces so far were written
+abbrev pub invariant-loop-i : goal.invariant-loop-i
+invariant-loop-i g l = record {
+  same : SameEngine l.fn.engine l.engine;
+  printed : (source : List ℕ) (us : List Tree) → IsTelling source l.fn.engine.spec l.telling → AreGivenTerms l.fn.engine.spec us l.terms
+      → Prints g.W.Write.contents l.fn.out l.out l.fn.lines l.lines
+      (given_traces source l.fn.engine.spec (shown_by l.telling.options) l.telling.options.run.steps (take l.i us));
+  writable : IsWritable l.out;
+  same_output : IsSameOutput l.fn.out l.out;
+}

@@ -1,0 +1,22 @@
+use Rattle.std.proofs.Common.{ℕ, List, take}
+use Rattle.std.specs.Prelude.{flat_map}
+use Rattle.rx_term.specs.Tree.{none}
+use Rattle.rx_text.specs.Output.{IsSameOutput, IsWritable}
+use Rattle.rec_syntax.specs.Syntax.{Term}
+use Rattle.rec_engine.specs.Engine.{SameEngine}
+use Rattle.rec_look.specs.Inner.Pages.{Prints}
+use Rattle.rec_look.specs.Inner.Telling.{IsTelling}
+use Rattle.rec_look.specs.Traces.{shown_by, task_text}
+use Rattle.rec_look.proofs.terms.write_own_traces.Given as goal
+
+-- the traces so far were written
+abbrev pub invariant-loop-i : goal.invariant-loop-i
+invariant-loop-i g l = record {
+  same : SameEngine l.fn.engine l.engine;
+  printed : (source : List ℕ) → IsTelling source l.fn.engine.spec l.telling
+      → Prints g.W.Write.contents l.fn.out l.out l.fn.lines l.lines
+      (flat_map (λ (t : Term). task_text source l.fn.engine.spec (shown_by l.telling.options) l.telling.options.run.steps
+      (record { term = t; notes = none })) (take l.i l.fn.engine.spec.terms));
+  writable : IsWritable l.out;
+  same_output : IsSameOutput l.fn.out l.out;
+}

@@ -1,0 +1,97 @@
+//! What a firing adds to the lines of its term.
+
+ghost use Rattle.std.specs.Prelude.{◌≡◌, ◌≤◌, ◌∷◌, ℕ, [], IfOk, List};
+ghost use Rattle.rx_term.specs.Store.{Store};
+ghost use Rattle.rec_engine.specs.Engine.{SameEngine};
+ghost use Rattle.rec_trace.specs.Tracing.{HasFiredAt, Stands, rest_of};
+ghost use Rattle.rec_trace.specs.declared.tracer.Tracer.{Tracer};
+ghost use Rattle.rec_look.specs.Picks.{picks_by};
+ghost use Rattle.rec_look.specs.Traces.{picked_lines, shown_by, step_line};
+ghost use Rattle.rec_look.specs.Inner.Telling.{HasKept, IsTelling, TakesUp};
+
+use crate::fired::{Fired, is_picked, step_text};
+use crate::kept::{Kept, Place};
+use crate::telling::Telling;
+use rec_engine::{Engine, EngineFault};
+use rec_trace::Tracer;
+use rx_term::TermBank;
+use std::alloc::Global;
+
+/// What a firing that is picked adds in front: its line is made where it is written there, or kept.
+fn picked_line<B: TermBank>(
+    alloc: Global,
+    engine: &mut Engine<B>,
+    tracer: &Tracer,
+    telling: &Telling<'_>,
+    fired: Fired,
+    kept: &mut Kept,
+) -> Result<Option<Vec<u8>>, EngineFault>
+    requires fired { (w : Store) × (t : Tracer) × HasFiredAt engine.old.spec w
+        (B.store engine.old.bank) t tracer.now fired.rule fired.redex }
+    requires stands { Stands engine.old.spec (B.store engine.old.bank) tracer.now }
+    requires left { tracer.now.left ≤ telling.now.options.run.steps }
+    requires telling { (source : List ℕ) × IsTelling source engine.old.spec telling.now }
+    ensures same { SameEngine engine.old engine.new }
+    ensures stands { Stands engine.old.spec (B.store engine.new.bank) tracer.now }
+    ensures rest { rest_of engine.old.spec (B.store engine.new.bank) tracer.now
+        ≡ rest_of engine.old.spec (B.store engine.old.bank) tracer.now }
+    ensures line { IfOk result (λ line. (source : List ℕ) (w : Store) (t : Tracer)
+        (before : List (List ℕ)) → IsTelling source engine.old.spec telling.now
+        → HasKept (picks_by telling.now.options.picked) before kept.old
+        → (f : HasFiredAt engine.old.spec w (B.store engine.old.bank) t tracer.now fired.rule
+        fired.redex)
+        → picked_lines source (shown_by telling.now.options) telling.now.options.run.steps
+        (f.firing ∷ []) ≡ step_line source (shown_by telling.now.options)
+        telling.now.options.run.steps f.firing ∷ []
+        → TakesUp source telling.now.options before f.firing kept.new line) }
+{
+    match kept.place() {
+        Place::Nowhere => {
+            kept.count()?;
+            Ok(None)
+        }
+        Place::Front => {
+            let line = step_text(alloc, engine, tracer, telling, fired)?;
+            kept.pass();
+            Ok(Some(line))
+        }
+        Place::Behind => {
+            let line = step_text(alloc, engine, tracer, telling, fired)?;
+            kept.keep(line)?;
+            Ok(None)
+        }
+    }
+}
+
+/// What a firing adds in front, by the tracer behind it. One that is not picked, or only counted,
+/// is not written down.
+pub(crate) fn next_line<B: TermBank>(
+    alloc: Global,
+    engine: &mut Engine<B>,
+    tracer: &Tracer,
+    telling: &Telling<'_>,
+    fired: Fired,
+    kept: &mut Kept,
+) -> Result<Option<Vec<u8>>, EngineFault>
+    requires fired { (w : Store) × (t : Tracer) × HasFiredAt engine.old.spec w
+        (B.store engine.old.bank) t tracer.now fired.rule fired.redex }
+    requires stands { Stands engine.old.spec (B.store engine.old.bank) tracer.now }
+    requires left { tracer.now.left ≤ telling.now.options.run.steps }
+    requires telling { (source : List ℕ) × IsTelling source engine.old.spec telling.now }
+    ensures same { SameEngine engine.old engine.new }
+    ensures stands { Stands engine.old.spec (B.store engine.new.bank) tracer.now }
+    ensures rest { rest_of engine.old.spec (B.store engine.new.bank) tracer.now
+        ≡ rest_of engine.old.spec (B.store engine.old.bank) tracer.now }
+    ensures line { IfOk result (λ line. (source : List ℕ) (w : Store) (t : Tracer)
+        (before : List (List ℕ)) → IsTelling source engine.old.spec telling.now
+        → HasKept (picks_by telling.now.options.picked) before kept.old
+        → (f : HasFiredAt engine.old.spec w (B.store engine.old.bank) t tracer.now fired.rule
+        fired.redex)
+        → TakesUp source telling.now.options before f.firing kept.new line) }
+{
+    if is_picked(engine.bank(), telling, fired) {
+        picked_line(alloc, engine, tracer, telling, fired, kept)
+    } else {
+        Ok(None)
+    }
+}
