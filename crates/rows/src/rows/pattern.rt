@@ -1,10 +1,9 @@
 //! Patterns of terms: what they match, and what they make.
 
-use crate::rows::banks::{plain_bank, shared_bank, term_of};
-use crate::rows::texts::{Nest, expect};
+use crate::rows::banks::{plain_bank, term_of};
+use crate::rows::texts::expect;
 use rx_pattern::{MakeFault, Pattern, PatternFault};
 use rx_plain::PlainBank;
-use rx_shared::SharedBank;
 use rx_term::{Term, TermBank};
 use std::alloc::Global;
 use std::process::Abort;
@@ -113,19 +112,19 @@ fn pattern_of<B: TermBank>(
 }
 
 /// The pattern that a text spells.
-fn pattern<B: TermBank>(rt: &impl Abort, alloc: Global, bank: &mut B, text: &[u8]) -> Pattern {
+pub fn pattern<B: TermBank>(rt: &impl Abort, alloc: Global, bank: &mut B, text: &[u8]) -> Pattern {
     pattern_of(rt, alloc, bank, text).expect(rt, "a pattern")
 }
 
 /// A list of one reference.
-fn only(rt: &impl Abort, alloc: Global, t: Term) -> Vec<Term> {
+pub fn only(rt: &impl Abort, alloc: Global, t: Term) -> Vec<Term> {
     let mut out = Vec::new(alloc);
     assert!(rt; out.push(t).is_ok());
     out
 }
 
 /// What the pattern answers for a term of the bank.
-fn answer<B: TermBank>(
+pub fn answer<B: TermBank>(
     rt: &impl Abort,
     bank: &mut B,
     p: &Pattern,
@@ -137,7 +136,7 @@ fn answer<B: TermBank>(
 }
 
 /// Whether these are the references of the terms that the texts spell.
-fn are_spelt(
+pub fn are_spelt(
     rt: &impl Abort,
     alloc: Global,
     bank: &mut PlainBank,
@@ -238,7 +237,7 @@ fn placeholders_everywhere(rt: HostRuntime) {
 }
 
 /// What the pattern makes of a term of the bank.
-fn of_one<B: TermBank>(
+pub fn of_one<B: TermBank>(
     rt: &impl Abort,
     bank: &mut B,
     p: &Pattern,
@@ -307,105 +306,4 @@ fn terms_in_their_places(rt: HostRuntime) {
 #[test]
 fn terms_that_are_refused(rt: HostRuntime) {
     expect_made(&rt, rt.alloc(), &UNMADE);
-}
-
-/// The pattern that a text spells, in a bank that then keeps nothing.
-fn lone_pattern(rt: &impl Abort, alloc: Global, bank: &mut PlainBank, text: &[u8]) -> Pattern {
-    let p = pattern(rt, alloc, bank, text);
-    bank.reclaim(&[]);
-    p
-}
-
-/// Leaves the bank the term alone.
-fn keep(rt: &impl Abort, bank: &mut PlainBank, t: Term) {
-    assert!(rt; bank.holds(t));
-    bank.reclaim(&[t]);
-}
-
-#[test]
-fn a_full_bank(rt: HostRuntime) {
-    let mut bank = plain_bank(&rt, rt.alloc(), 8);
-    fill(&rt, rt.alloc(), &mut bank);
-}
-
-/// Calls in a bank whose cells a term takes but for one.
-fn fill(rt: &impl Abort, alloc: Global, bank: &mut PlainBank) {
-    let open = lone_pattern(rt, alloc, bank, b"[<list>]{x}");
-    let single = lone_pattern(rt, alloc, bank, b"[<int>]");
-    let t = term_of(rt, alloc, bank, b"[1,2]{x}");
-    keep(rt, bank, t);
-    assert!(rt; bank.cells() == 7);
-    find_no_room(rt, alloc, bank, (&open, &single), t);
-}
-
-/// Calls that fail for want of cells, and what goes on after a reclaim.
-fn find_no_room(
-    rt: &impl Abort,
-    alloc: Global,
-    bank: &mut PlainBank,
-    (open, single): (&Pattern, &Pattern),
-    t: Term,
-) {
-    let nine = term_of(rt, alloc, bank, b"9");
-    assert!(rt; bank.cells() == 8);
-    let mut out = only(rt, alloc, nine);
-    assert!(rt; answer(rt, bank, open, t, &mut out) == Err(PatternFault::Full));
-    assert!(rt; out.is_empty());
-    assert!(rt; of_one(rt, bank, single, nine) == Err(MakeFault::Full));
-    keep(rt, bank, t);
-    assert!(rt; answer(rt, bank, open, t, &mut out) == Ok(true));
-    assert!(rt; are_spelt(rt, alloc, bank, &out, &["[1,2]"]));
-}
-
-/// A list within a list, 200,000 times, around a placeholder.
-const DEEP: Nest = Nest {
-    before: b"",
-    open: b"[",
-    inner: b"<int>",
-    close: b']',
-    after: b"",
-    depth: 200_000,
-};
-
-/// The same around what it matches.
-const DEEP_SUBJECT: Nest = Nest {
-    before: b"",
-    open: b"[",
-    inner: b"1",
-    close: b']',
-    after: b"",
-    depth: 200_000,
-};
-
-/// A bank that searches from the front would take minutes.
-#[test]
-fn deep_terms(rt: HostRuntime) {
-    let mut bank = shared_bank(&rt, rt.alloc(), 500_000);
-    match_deep(&rt, rt.alloc(), &mut bank);
-}
-
-/// The pattern that the text spells matches the subject, and not its own text.
-fn match_deep(rt: &impl Abort, alloc: Global, bank: &mut SharedBank) {
-    let text = DEEP.text(rt, alloc);
-    let p = pattern(rt, alloc, bank, &text);
-    let mut out = Vec::new(alloc);
-    match_subject(rt, alloc, bank, &p, &mut out);
-    let other = term_of(rt, alloc, bank, &text);
-    assert!(rt; answer(rt, bank, &p, other, &mut out) == Ok(false));
-    assert!(rt; out.is_empty());
-}
-
-/// The pattern matches the subject, and makes it of the 1 that it finds there.
-fn match_subject(
-    rt: &impl Abort,
-    alloc: Global,
-    bank: &mut SharedBank,
-    p: &Pattern,
-    out: &mut Vec<Term>,
-) {
-    let t = term_of(rt, alloc, bank, &DEEP_SUBJECT.text(rt, alloc));
-    assert!(rt; answer(rt, bank, p, t, out) == Ok(true));
-    let one = term_of(rt, alloc, bank, b"1");
-    assert!(rt; out.as_slice() == [one].as_slice());
-    assert!(rt; of_one(rt, bank, p, one) == Ok(t));
 }
