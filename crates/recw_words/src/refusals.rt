@@ -39,7 +39,7 @@ pub fn words_of(reason: Reason) -> &'static str {
         Reason::Grammar { at: _ } => "no specification has this here",
         Reason::Rule { number, at: _ } => rule_words(number),
         Reason::Outside { at: _ } => "no annotated term has this here",
-        Reason::Unlisted => "the terms or arguments are not a list, or have annotations themselves",
+        Reason::Unlisted => terms_rule_words(1),
         Reason::TermsRule { number } => terms_rule_words(number),
         Reason::Unknown => {
             "a placeholder is not <term>, <int>, <str>, <appl>, <placeholder> or <list>"
@@ -71,9 +71,10 @@ fn rule_words(number: u8) -> &'static str {
     }
 }
 
-/// The same of the rules of given terms behind the first.
+/// The same of the rules of given terms, the first of which is one of arguments too.
 fn terms_rule_words(number: u8) -> &'static str {
     match number {
+        1 => "the terms or arguments are not a list, or have annotations themselves",
         2 => "a node is an integer, a list or a placeholder",
         3 => "a node other than a given term itself has annotations",
         4 => {

@@ -149,8 +149,16 @@ fn tells(rt: &impl Abort, said: &str, saying: &Saying<'_>) {
 
 /// Given terms, the rule that refuses them with its place, and the end of what is said of them.
 const ITEMS: [(&str, &str, &str); 14] = [
-    ("a", "terms: T1: ", ""),
-    ("[a]{a}", "terms: T1: ", ""),
+    (
+        "a",
+        "terms: T1: ",
+        "are not a list, or have annotations themselves",
+    ),
+    (
+        "[a]{a}",
+        "terms: T1: ",
+        "are not a list, or have annotations themselves",
+    ),
     (
         "[f(a),3]",
         "terms:1:7: T2: ",
