@@ -3,7 +3,8 @@
 --     warnings text y        what the good specification of a text is warned of
 --     AreUncovered y us      examples of calls that no left side matches
 --     AreFound text v fs     what is found after the verdict on a text
-use Rattle.std.specs.Prelude.{ℕ, ◌≡◌, Bool, Option, Some, None, List, [], ◌∷◌, ◌++◌, map, flat_map, count_by}
+use Rattle.std.specs.Prelude.{ℕ, ◌≡◌, Bool, Option, Some, None, List, [], ◌∷◌, ◌++◌, map, flat_map}
+use Rattle.std.specs.Prelude.{count_by}
 use Rattle.std.specs.List.Sorted.{IsNonDecreasingBy}
 use Rattle.rec_syntax.specs.Tokens.{Word}
 use Rattle.rec_syntax.specs.Syntax as syntax
@@ -12,16 +13,20 @@ use Rattle.rec_syntax.specs.Grammar.{SpecText}
 use Rattle.rx_text.specs.Canon.{canon}
 use Rattle.rec_sorts.specs.Binding.{tree_of}
 use Rattle.rec_sorts.specs.Lookup.{symbols, names, variable_words}
-use Rattle.rec_sorts.specs.SpecRules.{Verdict, Long, Grammar, Breaks, Good, heads, all_terms, missing, sorts_of, fault, repeated_sorts, repeated_symbols}
-use Rattle.rec_sorts.specs.SpecRules.{taken_variables, unknown_sorts, unknown_words, ill_filled, ill_sorted, ill_headed, unlike_sides, unbound, open_terms}
+use Rattle.rec_sorts.specs.SpecRules.{Verdict, Long, Grammar, Breaks, Good, heads, all_terms}
+use Rattle.rec_sorts.specs.SpecRules.{missing, sorts_of, fault, repeated_sorts, repeated_symbols}
+use Rattle.rec_sorts.specs.SpecRules.{taken_variables, unknown_sorts, unknown_words, ill_filled}
+use Rattle.rec_sorts.specs.SpecRules.{ill_sorted, ill_headed, unlike_sides, unbound, open_terms}
 use Rattle.rec_check.specs.Rewriting.{rewritten_by}
 use Rattle.rec_check.specs.Spots.{spot_of, spot_shown}
 use Rattle.rec_check.specs.Uncovered.{IsUncovered}
 use Rattle.rec_check.specs.declared.finding.Example.{Example}
 use Rattle.rec_check.specs.declared.finding.Finding.{Finding}
 use Rattle.rec_check.specs.declared.finding.Kind.{Kind}
-use Rattle.rec_check.specs.declared.finding.Kind.TheVariants.{TooLong, Outside, Broken, NeverTried, NeverMatches}
-use Rattle.rec_check.specs.declared.finding.Kind.TheVariants.{NotCovered, UnusedSort, UnusedSymbol, UnusedVariable}
+use Rattle.rec_check.specs.declared.finding.Kind.TheVariants.{TooLong, Outside, Broken, NeverTried}
+use Rattle.rec_check.specs.declared.finding.Kind.TheVariants.{NeverMatches}
+use Rattle.rec_check.specs.declared.finding.Kind.TheVariants.{NotCovered, UnusedSort, UnusedSymbol}
+use Rattle.rec_check.specs.declared.finding.Kind.TheVariants.{UnusedVariable}
 use Rattle.rec_check.specs.declared.finding.Rule.{Rule}
 use Rattle.rec_check.specs.declared.finding.Rule.TheVariants as rule
 use Rattle.rec_check.specs.declared.finding.Shown.{Shown}

@@ -3,8 +3,10 @@ use Rattle.std.specs.Prelude.{ℕ, List, [], ◌∷◌, ◌++◌, codes, decimal
 use Rattle.rec_check.specs.Findings.{Found}
 use Rattle.rec_check.specs.Spots.{spot_of}
 use Rattle.rec_check.specs.declared.finding.Kind.{Kind}
-use Rattle.rec_check.specs.declared.finding.Kind.TheVariants.{TooLong, Outside, Broken, NeverTried, NeverMatches}
-use Rattle.rec_check.specs.declared.finding.Kind.TheVariants.{NotCovered, UnusedSort, UnusedSymbol, UnusedVariable}
+use Rattle.rec_check.specs.declared.finding.Kind.TheVariants.{TooLong, Outside, Broken, NeverTried}
+use Rattle.rec_check.specs.declared.finding.Kind.TheVariants.{NeverMatches}
+use Rattle.rec_check.specs.declared.finding.Kind.TheVariants.{NotCovered, UnusedSort, UnusedSymbol}
+use Rattle.rec_check.specs.declared.finding.Kind.TheVariants.{UnusedVariable}
 use Rattle.rec_check.specs.declared.finding.Rule.{Rule}
 use Rattle.rec_check.specs.declared.finding.Rule.TheVariants as rule
 use Rattle.rec_check.specs.declared.spots.Spot.{Spot}

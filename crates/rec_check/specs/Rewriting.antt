@@ -1,7 +1,8 @@
 -- Which rules without conditions rewrite a term whose variables are read as constants.
 --     rewrites y r t          a rule does: its left side matches the term
 --     rewritten_by y rs t     the first word of the first of some rules that does
-use Rattle.std.specs.Prelude.{ℕ, ◌≡◌, Bool, false, List, [], ◌∷◌, ◌++◌, Option, Some, None, if◌then◌else◌, is_some, slice_get}
+use Rattle.std.specs.Prelude.{ℕ, ◌≡◌, Bool, false, List, [], ◌∷◌, ◌++◌, Option, Some, None}
+use Rattle.std.specs.Prelude.{if◌then◌else◌, is_some, slice_get}
 use Rattle.rec_syntax.specs.Tokens.{Word}
 use Rattle.rec_syntax.specs.Syntax.{Term, Terms, Apply, none, more, Rule, Spec, head}
 use Rattle.rec_sorts.specs.Binding.{binds, tree_of}

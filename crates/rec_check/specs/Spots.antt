@@ -1,5 +1,6 @@
 -- Lines and columns, both from 1.
-use Rattle.std.specs.Prelude.{ℕ, suc, ◌==◌, if◌then◌else◌, List, [], ◌∷◌, ◌++◌, codes, decimal, take}
+use Rattle.std.specs.Prelude.{ℕ, suc, ◌==◌, if◌then◌else◌, List, [], ◌∷◌, ◌++◌, codes, decimal}
+use Rattle.std.specs.Prelude.{take}
 use Rattle.rec_check.specs.declared.spots.Spot.{Spot}
 
 -- the first byte of a text

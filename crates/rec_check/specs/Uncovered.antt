@@ -2,7 +2,8 @@
 --     IsGround y sort t      a term of a sort, of symbols with which no left side begins
 --     IsUncovered y d t      a call of an operator over such terms that no left side matches
 use Rattle.std.specs.Prelude.{ℕ, ◌≡◌, Bool, true, false, All, Contains, List, [], ◌∷◌, None, map}
-use Rattle.rec_syntax.specs.Syntax.{Term, Terms, Apply, none, more, Declaration, Spec, arguments, head}
+use Rattle.rec_syntax.specs.Syntax.{Term, Terms, Apply, none, more, Declaration, Spec, arguments}
+use Rattle.rec_syntax.specs.Syntax.{head}
 use Rattle.rec_sorts.specs.Binding.{binds, tree_of}
 use Rattle.rec_sorts.specs.Lookup.{mentions, symbols}
 

@@ -1,5 +1,6 @@
 -- What breaks rules, by the nodes of terms, each behind those of its arguments.
-use Rattle.std.specs.Prelude.{◌-◌, true, false, List, [], ◌∷◌, ◌++◌, Some, length, take, drop, flat_map}
+use Rattle.std.specs.Prelude.{◌-◌, true, false, List, [], ◌∷◌, ◌++◌, Some, length, take, drop}
+use Rattle.std.specs.Prelude.{flat_map}
 use Rattle.rec_syntax.specs.Tokens.{Word}
 use Rattle.rec_syntax.specs.Syntax.{Spec, Term, Condition, Rule, head}
 use Rattle.rec_syntax.specs.Nodes.{Node, flat}

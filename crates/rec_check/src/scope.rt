@@ -117,7 +117,8 @@ fn sorts_of_all<'a>(alloc: Global, syntax: &'a Syntax) -> Result<Vec<Word<'a>>, 
 
 /// Whether two sorts are equal, or neither is there.
 fn same(left: Option<&[u8]>, right: Option<&[u8]>) -> bool
-    ensures { result ≡ same_sort (option_map (λ s. s.now) left.entry) (option_map (λ s. s.now) right.entry) }
+    ensures { result ≡ same_sort (option_map (λ s. s.now) left.entry)
+        (option_map (λ s. s.now) right.entry) }
 {
     match (left, right) {
         (Some(left), Some(right)) => left == right,

@@ -6,7 +6,8 @@ ghost use Rattle.rec_syntax.specs.Parts.{IsCondition, IsDeclaration, IsGroup, Is
 ghost use Rattle.rec_syntax.specs.Parts.{Within, condition_of, declaration_of, group_of, rule_of};
 ghost use Rattle.rec_syntax.specs.Parts.{term_of, words_of};
 ghost use Rattle.rec_syntax.specs.Nodes.{flat};
-ghost use Rattle.rec_sorts.specs.Lookup.{condition_terms, names, rule_terms, symbols, variable_words};
+ghost use Rattle.rec_sorts.specs.Lookup.{condition_terms, names, rule_terms, symbols};
+ghost use Rattle.rec_sorts.specs.Lookup.{variable_words};
 ghost use Rattle.rec_sorts.specs.SpecRules.{sorts_of};
 ghost use Rattle.rec_check.specs.Named.{as_nodes, as_word, as_words, node_words};
 ghost use Rattle.rec_check.specs.Walks.{flat_terms};

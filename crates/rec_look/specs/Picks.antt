@@ -1,8 +1,10 @@
 -- Which of the rules that fire a trace tells.
 --     is_picked source p f   a firing is one of those that are asked for
 --     shown_lines p ls       of the lines of those that are, the ones that are written
-use Rattle.std.specs.Prelude.{ℕ, zero, suc, ◌-◌, ◌%◌, ◌==◌, ◌&&◌, Bool, true, false, List, [], ◌∷◌, ◌++◌, Option}
-use Rattle.std.specs.Prelude.{Some, None, bytes_eq, codes, decimal, drop, length, option_map, take, if◌then◌else◌}
+use Rattle.std.specs.Prelude.{ℕ, zero, suc, ◌-◌, ◌%◌, ◌==◌, ◌&&◌, Bool, true, false, List, [], ◌∷◌}
+use Rattle.std.specs.Prelude.{◌++◌, Option}
+use Rattle.std.specs.Prelude.{Some, None, bytes_eq, codes, decimal, drop, length, option_map, take}
+use Rattle.std.specs.Prelude.{if◌then◌else◌}
 use Rattle.rx_term.specs.Tree.{Tree, Appl}
 use Rattle.rec_trace.specs.Lines.{rule_spot}
 use Rattle.rec_trace.specs.Trace.{Firing}

@@ -2,15 +2,18 @@
 --     task_text source y shown n task   all that is written for a term
 --     traces source y given shown n     the traces of a specification's own terms and of given ones
 --     IsTraceDueFor shown n texts d     what is due for a specification and terms
-use Rattle.std.specs.Prelude.{ℕ, ◌≡◌, ◌<◌, ◌^◌, ◌||◌, Bool, true, false, not, List, [], ◌∷◌, ◌++◌, Option, Some, None, filter, flat_map, length, map, nat_eq}
+use Rattle.std.specs.Prelude.{ℕ, ◌≡◌, ◌<◌, ◌^◌, ◌||◌, Bool, true, false, not, List, [], ◌∷◌, ◌++◌}
+use Rattle.std.specs.Prelude.{Option, Some, None, filter, flat_map, length, map, nat_eq}
 use Rattle.rx_term.specs.Tree.{Tree}
 use Rattle.rec_syntax.specs.Syntax.{Spec}
 use Rattle.rec_sorts.specs.Binding.{tree_of}
 use Rattle.rec_sorts.specs.SpecRules.{Verdict, Good, SpecVerdict, fault}
 use Rattle.rx_run.specs.Due.{Due, done}
-use Rattle.rec_run.specs.Output.{Task, TermsVerdict, GoodTerms, IsTermsVerdict, bare, due_of_spec, due_of_terms, each_line, tasks}
+use Rattle.rec_run.specs.Output.{Task, TermsVerdict, GoodTerms, IsTermsVerdict, bare, due_of_spec}
+use Rattle.rec_run.specs.Output.{due_of_terms, each_line, tasks}
 use Rattle.rec_run.specs.Run.{Texts}
-use Rattle.rec_trace.specs.Lines.{begins_with_digit, firing_line, joined, term_lines, value_line, whole_line, whole_text}
+use Rattle.rec_trace.specs.Lines.{begins_with_digit, firing_line, joined, term_lines, value_line}
+use Rattle.rec_trace.specs.Lines.{whole_line, whole_text}
 use Rattle.rec_trace.specs.Trace.{Firing, Trace}
 use Rattle.rec_look.specs.Picks.{Picks, all_picked, is_picked, picks_by, shown_lines}
 use Rattle.rec_look.specs.declared.options.TraceOptions.{TraceOptions}

@@ -1,7 +1,9 @@
 -- What matching trees in flat form find.
 use Rattle.std.specs.Option.{option_map}
-use Rattle.std.specs.Prelude.{slice_range, ◌≢◌, ◌⊎◌, ℕ, ◌≡◌, ◌+◌, ◌-◌, ◌<◌, ◌≤◌, suc, ◌&&◌, Bool, true, false, List, [], ◌∷◌}
-use Rattle.std.specs.Prelude.{◌++◌, Option, Some, None, All, length, drop, map, get_or, nat_eq, nat_le, nat_lt, if◌then◌else◌}
+use Rattle.std.specs.Prelude.{slice_range, ◌≢◌, ◌⊎◌, ℕ, ◌≡◌, ◌+◌, ◌-◌, ◌<◌, ◌≤◌, suc, ◌&&◌, Bool}
+use Rattle.std.specs.Prelude.{true, false, List, [], ◌∷◌}
+use Rattle.std.specs.Prelude.{◌++◌, Option, Some, None, All, length, drop, map, get_or, nat_eq}
+use Rattle.std.specs.Prelude.{nat_le, nat_lt, if◌then◌else◌}
 use Rattle.rx_term.specs.Tree.{Tree, Trees, Items, none, count_of, to_list, from_list, tree_eq}
 use Rattle.rx_term.specs.Store.{Store, tree_at, signature_of}
 use Rattle.rx_term.specs.Walks.{AllHeld, held_tree, held_trees}

@@ -1,5 +1,6 @@
 -- What a matcher keeps of left sides, and what it finds.
-use Rattle.std.specs.Prelude.{ℕ, ◌≡◌, ◌<◌, ◌≤◌, List, [], ◌∷◌, ◌++◌, Option, Some, None, All, map, reverse, length, get_or, drop, zero, suc}
+use Rattle.std.specs.Prelude.{ℕ, ◌≡◌, ◌<◌, ◌≤◌, List, [], ◌∷◌, ◌++◌, Option, Some, None, All, map}
+use Rattle.std.specs.Prelude.{reverse, length, get_or, drop, zero, suc}
 use Rattle.rx_term.specs.Tree.{Tree, Trees, from_list}
 use Rattle.rx_term.specs.Store.{Store}
 use Rattle.rx_term.specs.declared.Term.{Term}

@@ -3,7 +3,8 @@ use Rattle.std.specs.Prelude.{ℕ, ◌≡◌, List, ◌∷◌, ◌++◌, ◌≤�
 use Rattle.rec_syntax.specs.Syntax.{Variables, Spec}
 use Rattle.rec_sorts.specs.Lookup.{symbols, names, variable_words}
 use Rattle.rec_syntax.specs.Parts.{words_of, Within}
-use Rattle.rec_sorts.specs.SpecRules.{repeated_sorts, repeated_symbols, taken_variables, unknown_sorts}
+use Rattle.rec_sorts.specs.SpecRules.{repeated_sorts, repeated_symbols, taken_variables}
+use Rattle.rec_sorts.specs.SpecRules.{unknown_sorts}
 use Rattle.rec_sorts.specs.Least.{least_place}
 use Rattle.rec_sorts.specs.declared.declarations.Declared.{Declared}
 use Rattle.rec_sorts.specs.Names.{Numbers, given_to, first_at}

@@ -1,5 +1,6 @@
 -- REC terms as trees, substitutions, and which substitution makes a left side a given tree.
-use Rattle.std.specs.Prelude.{ℕ, true, false, not, List, [], ◌∷◌, ◌++◌, Option, Some, None, drop, suc, bytes_eq}
+use Rattle.std.specs.Prelude.{ℕ, true, false, not, List, [], ◌∷◌, ◌++◌, Option, Some, None, drop}
+use Rattle.std.specs.Prelude.{suc, bytes_eq}
 use Rattle.rx_term.specs.Tree.{Tree, Trees, Appl, none, more, tree_eq}
 use Rattle.rx_term.specs.Name.{plain_name}
 use Rattle.rec_syntax.specs.Syntax.{Term, Terms, Apply, Rule, Spec}

@@ -1,5 +1,6 @@
 -- What holds of evaluation: its equations, its cost, and the steps of rewriting that it stands for.
-use Rattle.std.specs.Prelude.{ℕ, zero, suc, ◌-◌, ◌≡◌, ◌≤◌, ◌<◌, List, [], ◌∷◌, Option, Some, None, IsSome, MatchBool, true, not}
+use Rattle.std.specs.Prelude.{ℕ, zero, suc, ◌-◌, ◌≡◌, ◌≤◌, ◌<◌, List, [], ◌∷◌, Option, Some, None}
+use Rattle.std.specs.Prelude.{IsSome, MatchBool, true, not}
 use Rattle.rx_term.specs.Tree.{Tree, Trees, Appl, none, more}
 use Rattle.rec_syntax.specs.Syntax.{Term, Terms, Apply, Spec}
 use Rattle.rec_sorts.specs.Lookup.{is_variable, mentions, names}
@@ -7,7 +8,8 @@ use Rattle.rx_term.specs.Name.{plain_name}
 use Rattle.rec_sorts.specs.SpecRules.{fault}
 use Rattle.rec_sorts.specs.Binding.{Substitution, value_of, instance, binds, tree_of}
 use Rattle.rec_sorts.specs.TermRules.{nodes, elements, broken_by_terms, broken_element}
-use Rattle.rec_sorts.specs.Evaluation.{Done, Over, Evaluator, evaluate, call, first_rule, Eval, term_of}
+use Rattle.rec_sorts.specs.Evaluation.{Done, Over, Evaluator, evaluate, call, first_rule, Eval}
+use Rattle.rec_sorts.specs.Evaluation.{term_of}
 
 -- an evaluator meets the equations of evaluation: it evaluates a term's arguments and calls its
 -- head, and what the call evaluates is evaluated by itself

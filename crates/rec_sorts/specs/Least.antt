@@ -1,5 +1,6 @@
 -- The least of some places, none where there is no place.
-use Rattle.std.specs.Prelude.{ℕ, Bool, true, false, ◌&&◌, List, [], ◌∷◌, Option, Some, None, min, is_none}
+use Rattle.std.specs.Prelude.{ℕ, Bool, true, false, ◌&&◌, List, [], ◌∷◌, Option, Some, None, min}
+use Rattle.std.specs.Prelude.{is_none}
 use Rattle.rec_syntax.specs.Tokens.{Word}
 use Rattle.rec_sorts.specs.declared.places.TermPlaces.{TermPlaces}
 

@@ -1,5 +1,6 @@
 -- The words of terms with their places, and where they break rules.
-use Rattle.std.specs.Prelude.{ℕ, ◌-◌, not, List, [], ◌∷◌, ◌++◌, Option, None, length, map, take, drop, nat_eq, is_none, unwrap_or}
+use Rattle.std.specs.Prelude.{ℕ, ◌-◌, not, List, [], ◌∷◌, ◌++◌, Option, None, length, map, take}
+use Rattle.std.specs.Prelude.{drop, nat_eq, is_none, unwrap_or}
 use Rattle.std.specs.Option.{option_eq}
 use Rattle.rec_syntax.specs.Nodes.{Node}
 use Rattle.rec_sorts.specs.Least.{earlier, least_of, place_where}

@@ -1,7 +1,9 @@
 -- What a specification declares.
-use Rattle.std.specs.Prelude.{ℕ, Bool, true, false, ◌||◌, List, [], ◌∷◌, ◌++◌, Option, Some, None, map, flat_map, bytes_eq}
+use Rattle.std.specs.Prelude.{ℕ, Bool, true, false, ◌||◌, List, [], ◌∷◌, ◌++◌, Option, Some, None}
+use Rattle.std.specs.Prelude.{map, flat_map, bytes_eq}
 use Rattle.rec_syntax.specs.Tokens.{Word}
-use Rattle.rec_syntax.specs.Syntax.{Term, Terms, none, more, Declaration, Variables, Condition, Rule, Spec, head}
+use Rattle.rec_syntax.specs.Syntax.{Term, Terms, none, more, Declaration, Variables, Condition}
+use Rattle.rec_syntax.specs.Syntax.{Rule, Spec, head}
 
 -- one of the words has these bytes
 abbrev pub mentions : List Word → List ℕ → Bool

@@ -1,5 +1,6 @@
 -- Names and their numbers.
-use Rattle.std.specs.Prelude.{ℕ, true, false, List, [], ◌∷◌, Option, Some, None, suc, bytes_eq, is_some}
+use Rattle.std.specs.Prelude.{ℕ, true, false, List, [], ◌∷◌, Option, Some, None, suc, bytes_eq}
+use Rattle.std.specs.Prelude.{is_some}
 use Rattle.std.specs.HashMap.{get_by}
 use Rattle.std.specs.Option.{option_map}
 use Rattle.rec_syntax.specs.Tokens.{Word}

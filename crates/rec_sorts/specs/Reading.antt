@@ -1,12 +1,14 @@
 -- The letters of terms and rules, and the least places at which they break rules.
-use Rattle.std.specs.Prelude.{ℕ, ◌≡◌, ◌-◌, Bool, false, not, List, [], ◌∷◌, Option, Some, None, length, map, slice_get, nat_eq}
+use Rattle.std.specs.Prelude.{ℕ, ◌≡◌, ◌-◌, Bool, false, not, List, [], ◌∷◌, Option, Some, None}
+use Rattle.std.specs.Prelude.{length, map, slice_get, nat_eq}
 use Rattle.std.specs.List.{list_any}
 use Rattle.std.specs.Option.{option_eq}
 use Rattle.rec_syntax.specs.Syntax.{Term, Condition, Rule}
 use Rattle.rec_syntax.specs.Nodes.{flat}
 use Rattle.rec_sorts.specs.Least.{earlier, least_of, place_where, joined}
 use Rattle.rec_sorts.specs.Scope.{sort_at, is_operator}
-use Rattle.rec_sorts.specs.Letters.{placed_by, bare, unknown_among, ill_filled_among, ill_sorted_among}
+use Rattle.rec_sorts.specs.Letters.{placed_by, bare, unknown_among, ill_filled_among}
+use Rattle.rec_sorts.specs.Letters.{ill_sorted_among}
 use Rattle.rec_sorts.specs.Numbering.{Pairwise}
 use Rattle.rec_sorts.specs.declared.letters.Letter.{Letter}
 use Rattle.rec_sorts.specs.declared.letters.LetterCondition.{LetterCondition}

@@ -1,5 +1,6 @@
 -- What words stand for, by the numbers of the names that are declared.
-use Rattle.std.specs.Prelude.{ℕ, ◌+◌, ◌-◌, Bool, false, List, [], map, get_or, nat_lt, nat_le, Option, Some, None, if◌then◌else◌}
+use Rattle.std.specs.Prelude.{ℕ, ◌+◌, ◌-◌, Bool, false, List, [], map, get_or, nat_lt, nat_le}
+use Rattle.std.specs.Prelude.{Option, Some, None, if◌then◌else◌}
 use Rattle.std.specs.Option.{option_map}
 use Rattle.rec_sorts.specs.Names.{given_to}
 use Rattle.rec_sorts.specs.declared.letters.Meaning.{Meaning}

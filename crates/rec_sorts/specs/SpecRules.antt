@@ -1,12 +1,16 @@
 -- The eleven rules of a specification, each as the list of the places at which it is broken, and
 -- the verdict.
-use Rattle.std.specs.Prelude.{ℕ, ◌≡◌, ◌≤◌, ◌<◌, Bool, true, false, not, List, [], ◌∷◌, ◌++◌, Option, Some, None, map, flat_map, filter, length, nat_eq, min}
+use Rattle.std.specs.Prelude.{ℕ, ◌≡◌, ◌≤◌, ◌<◌, Bool, true, false, not, List, [], ◌∷◌, ◌++◌, Option}
+use Rattle.std.specs.Prelude.{Some, None, map, flat_map, filter, length, nat_eq, min}
 use Rattle.rec_syntax.specs.Tokens.{Word}
-use Rattle.rec_syntax.specs.Syntax.{Term, Terms, Apply, none, more, Declaration, Spec, head, subterms}
+use Rattle.rec_syntax.specs.Syntax.{Term, Terms, Apply, none, more, Declaration, Spec, head}
+use Rattle.rec_syntax.specs.Syntax.{subterms}
 use Rattle.rec_syntax.specs.Grammar.{SpecText}
 use Rattle.rec_syntax.specs.Place.{IsFaultPlace}
-use Rattle.rec_sorts.specs.Lookup.{mentions, repeated, places, symbols, names, variable_words, symbol}
-use Rattle.rec_sorts.specs.Lookup.{is_variable, sort_of, same_sort, count, condition_terms, rule_terms}
+use Rattle.rec_sorts.specs.Lookup.{mentions, repeated, places, symbols, names, variable_words}
+use Rattle.rec_sorts.specs.Lookup.{symbol}
+use Rattle.rec_sorts.specs.Lookup.{is_variable, sort_of, same_sort, count, condition_terms}
+use Rattle.rec_sorts.specs.Lookup.{rule_terms}
 
 -- the first words of terms
 abbrev pub heads : List Term → List Word

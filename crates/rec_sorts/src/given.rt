@@ -74,7 +74,8 @@ fn argument_count<B: TermBank>(bank: &B, node: Term) -> u32
 }
 
 impl Scope<'_> {
-    ghost use Rattle.rec_sorts.specs.Inner.GivenTerms.{symbol_at, is_nameless, is_misfilled, are_misfits};
+    ghost use Rattle.rec_sorts.specs.Inner.GivenTerms.{symbol_at, is_nameless};
+    ghost use Rattle.rec_sorts.specs.Inner.GivenTerms.{is_misfilled, are_misfits};
     ghost use Rattle.rec_sorts.specs.Inner.GivenTerms.{has_misfit, node_letter, broken_by_nodes};
     ghost use Rattle.rec_sorts.specs.Inner.GivenTerms.{broken_by_all, is_broken_alone};
 

@@ -169,8 +169,8 @@ impl Scope<'_> {
         Ok(Read { letters, places })
     }
 
-    /// The sides of a rule, the left one in place of what `left` held and the right one in the room,
-    /// and where each breaks a rule by itself.
+    /// The sides of a rule, the left one in place of what `left` held and the right one in the
+    /// room, and where each breaks a rule by itself.
     #[inline]
     fn sides(
         &self,

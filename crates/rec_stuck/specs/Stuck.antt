@@ -5,8 +5,10 @@
 --     stuck_text source y v    the lines of the calls in a value
 --     stuck_report source y given n   those of the values of all terms
 --     IsToldFor n texts told   what is told of the values of a run's texts
-use Rattle.std.specs.Prelude.{ℕ, Bool, false, not, ◌&&◌, ◌≡◌, List, [], ◌∷◌, ◌++◌, Option, Some, IfSome}
-use Rattle.std.specs.Prelude.{codes, decimal, bytes_eq, filter, flat_map, is_some, length, map, nat_eq}
+use Rattle.std.specs.Prelude.{ℕ, Bool, false, not, ◌&&◌, ◌≡◌, List, [], ◌∷◌, ◌++◌, Option, Some}
+use Rattle.std.specs.Prelude.{IfSome}
+use Rattle.std.specs.Prelude.{codes, decimal, bytes_eq, filter, flat_map, is_some, length, map}
+use Rattle.std.specs.Prelude.{nat_eq}
 use Rattle.std.specs.Bool.{beq}
 use Rattle.std.specs.List.{list_any}
 use Rattle.indexmap.specs.IndexSet.{insert_all}

@@ -7,7 +7,8 @@ ghost use Rattle.rx_text.specs.Output.{IsSameOutput, IsWritable, Writes, WritesF
 ghost use Rattle.rx_run.specs.Run.{Stops, StopsAfter};
 ghost use Rattle.rx_run.specs.Streams.{TellsWrite};
 ghost use Rattle.rec_engine.specs.Engine.{IsGiven, SameEngine};
-ghost use Rattle.rec_run.specs.Depth.{LineDeepOnly, RunDeepOnly, of_line, unbounded, unbounded_line};
+ghost use Rattle.rec_run.specs.Depth.{LineDeepOnly, RunDeepOnly, of_line, unbounded};
+ghost use Rattle.rec_run.specs.Depth.{unbounded_line};
 ghost use Rattle.rec_run.specs.EvaluatedLines.{
   HoldsValue,
   IsThereFor,

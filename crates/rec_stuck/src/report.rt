@@ -7,7 +7,8 @@ ghost use Rattle.rx_term.specs.Walks.{held_tree};
 ghost use Rattle.rx_term.specs.declared.Symbol.{Symbol};
 ghost use Rattle.rec_sorts.specs.Linked.{AreLinked, NumberOf};
 ghost use Rattle.rec_run.specs.EvaluatedLines.{HoldsValue};
-ghost use Rattle.rec_stuck.specs.Inner.Calls.{AreSpots, IsCallOf, IsCalled, line_if, outcome_report};
+ghost use Rattle.rec_stuck.specs.Inner.Calls.{AreSpots, IsCallOf, IsCalled, line_if};
+ghost use Rattle.rec_stuck.specs.Inner.Calls.{outcome_report};
 ghost use Rattle.rec_stuck.specs.Stuck.{stuck_line, stuck_text};
 ghost use Rattle.rec_stuck.specs.Inner.Visits.{AreThere, reference};
 

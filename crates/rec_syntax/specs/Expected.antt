@@ -1,5 +1,6 @@
 -- What may stand at the place of a fault.
-use Rattle.std.specs.Prelude.{◌≡◌, ◌↔◌, ℕ, Bool, List, [], ◌∷◌, ◌++◌, Contains, Option, Some, None, is_some}
+use Rattle.std.specs.Prelude.{◌≡◌, ◌↔◌, ℕ, Bool, List, [], ◌∷◌, ◌++◌, Contains, Option, Some, None}
+use Rattle.std.specs.Prelude.{is_some}
 use Rattle.rec_syntax.specs.Tokens as tokens
 use Rattle.rec_syntax.specs.Tokens.{Word, Token, bare}
 use Rattle.rec_syntax.specs.Place.{CanGoOn, IsFaultPlace}
@@ -8,8 +9,10 @@ use Rattle.rec_syntax.specs.Lexemes.{section_of, token_of}
 use Rattle.rec_syntax.specs.Inner.Reader.{state_of}
 use Rattle.rec_syntax.specs.declared.lexer.LexemeKind.{LexemeKind}
 use Rattle.rec_syntax.specs.declared.token_kind.TokenKind.{TokenKind}
-use Rattle.rec_syntax.specs.declared.token_kind.TokenKind.TheVariants.{PlainWord, RecSpec, Section, EndSpec, If, AndIf, Colon}
-use Rattle.rec_syntax.specs.declared.token_kind.TokenKind.TheVariants.{Open, Close, Comma, Arrow, Equal, Unequal, End}
+use Rattle.rec_syntax.specs.declared.token_kind.TokenKind.TheVariants.{PlainWord, RecSpec, Section}
+use Rattle.rec_syntax.specs.declared.token_kind.TokenKind.TheVariants.{EndSpec, If, AndIf, Colon}
+use Rattle.rec_syntax.specs.declared.token_kind.TokenKind.TheVariants.{Open, Close, Comma, Arrow}
+use Rattle.rec_syntax.specs.declared.token_kind.TokenKind.TheVariants.{Equal, Unequal, End}
 use Rattle.rec_syntax.specs.declared.reader.Due.{Due}
 use Rattle.rec_syntax.specs.declared.reader.Reader.{Reader}
 

@@ -159,8 +159,10 @@ has-values y w stack redex i r s bind found list in_stack match answer = by foun
     by None h = absurd (cc (sym h.0 ∙ first))
     by (Some k) h =
         let same : (let a : NumberedMatch = record { number = k; values = h.values } in a) ≡ record { number = i; values = s } =
-        some-same (let a : NumberedMatch = record { number = k; values = h.values } in a) (record { number = i; values = s }) (sym h.first ∙ first) in
-        values-bound y w stack r.left (held_tree w redex) s bind list in_stack match.binds (h.bound ∙ ap (λ (m : NumberedMatch). values_of m.values) same) h.held
+        some-same (let a : NumberedMatch = record { number = k; values = h.values } in a)
+        (record { number = i; values = s }) (sym h.first ∙ first) in
+        values-bound y w stack r.left (held_tree w redex) s bind list in_stack match.binds
+        (h.bound ∙ ap (λ (m : NumberedMatch). values_of m.values) same) h.held
 
 -- what is a part of the stack stays, and so do the values of a match
 same-trees : (w w' : Store) (bind : List Reference) → ((t : Reference) → Contains bind t → tree_at w' t ≡ tree_at w t) → held_trees w' bind ≡ held_trees w bind

@@ -1,6 +1,8 @@
 -- What a trace writes: a line for each rule that fires, and then the line of the term.
-use Rattle.std.specs.Prelude.{ℕ, suc, ◌-◌, ◌^◌, ◌≡◌, ◌<◌, ◌&&◌, Bool, true, false, List, [], ◌∷◌, ◌++◌, Option, Some}
-use Rattle.std.specs.Prelude.{None, codes, decimal, flat_map, if◌then◌else◌, length, map, nat_eq, nat_le, take}
+use Rattle.std.specs.Prelude.{ℕ, suc, ◌-◌, ◌^◌, ◌≡◌, ◌<◌, ◌&&◌, Bool, true, false, List, [], ◌∷◌}
+use Rattle.std.specs.Prelude.{◌++◌, Option, Some}
+use Rattle.std.specs.Prelude.{None, codes, decimal, flat_map, if◌then◌else◌, length, map, nat_eq}
+use Rattle.std.specs.Prelude.{nat_le, take}
 use Rattle.rx_term.specs.Tree.{Tree, Trees, annotated}
 use Rattle.rx_text.specs.Canon.{canon}
 use Rattle.rec_syntax.specs.Syntax.{Rule, Term, Spec, head}
@@ -16,7 +18,8 @@ ends_in (b ∷ bs) = elim (nat_eq b 10) [ true ↦ suc (ends_in bs) | false ↦ 
 
 abbrev pub behind_end : ℕ → List ℕ → ℕ
 behind_end k [] = k
-behind_end k (b ∷ bs) = elim (nat_eq b 10) [ true ↦ behind_end 0 bs | false ↦ behind_end (suc k) bs ]
+behind_end k (b ∷ bs) =
+    elim (nat_eq b 10) [ true ↦ behind_end 0 bs | false ↦ behind_end (suc k) bs ]
 
 -- a text of more bytes than so many ends in dots
 abbrev pub cut : Option ℕ → List ℕ → List ℕ

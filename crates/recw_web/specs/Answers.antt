@@ -5,7 +5,8 @@
 --     Answers IsDue status told old new   0 says that the run is done, 1 that a text is refused,
 --                                         2 that the room is too short for what is due, 3 and 4
 --                                         that memory or cells ran out
-use Rattle.std.specs.Prelude.{◌≡◌, ◌<◌, ◌^◌, ℕ, List, Option, Some, None, length, max, min, option_map, take, if◌then◌else◌}
+use Rattle.std.specs.Prelude.{◌≡◌, ◌<◌, ◌^◌, ℕ, List, Option, Some, None, length, max, min}
+use Rattle.std.specs.Prelude.{option_map, take, if◌then◌else◌}
 use Rattle.rx_run.specs.Due.{Due}
 use Rattle.rx_run.specs.Run.{IsPlaced}
 use Rattle.rx_run.specs.declared.ending.Finish.{Finish}

@@ -1,5 +1,6 @@
 -- What users see of an arena: the taken slots, the chains and the gray list.
-use Rattle.std.specs.Prelude.{◌≡◌, ℕ, ◌+◌, ◌%◌, ◌<◌, ◌≤◌, ◌^◌, Bool, true, false, not, cond, nat_eq, List}
+use Rattle.std.specs.Prelude.{◌≡◌, ℕ, ◌+◌, ◌%◌, ◌<◌, ◌≤◌, ◌^◌, Bool, true, false, not, cond, nat_eq}
+use Rattle.std.specs.Prelude.{List}
 use Rattle.std.specs.Prelude.{[], ◌∷◌, length, filter, map, get_or, replicate, Option, Some, None}
 use Rattle.std.specs.Option.{option_map}
 use Rattle.rx_arena.specs.declared.CellBody.{CellBody}

@@ -1,7 +1,8 @@
 //! The slots that are taken, and a list of those that were given back.
 ghost use Rattle.std.specs.Prelude.{◌≡◌, ◌+◌, ◌-◌, ◌<◌, ◌≤◌, ◌^◌, ◌∷◌, [], Option, Some, None, Ok};
 ghost use Rattle.std.specs.Prelude.{Err, MatchOption, MatchResult, IfSome, IfOk, IfErr, OnOk};
-ghost use Rattle.std.specs.Prelude.{◌≢◌, IsTrue, OnErr, OnSome, IfNone, get_or, length, min, ℕ, false, not};
+ghost use Rattle.std.specs.Prelude.{◌≢◌, IsTrue, OnErr, OnSome, IfNone, get_or, length, min, ℕ};
+ghost use Rattle.std.specs.Prelude.{false, not};
 ghost use Rattle.rx_arena.specs.Inner.Held.{IsHeld};
 ghost use Rattle.rx_arena.specs.Faces.{ask, word_of};
 ghost use Rattle.rx_arena.specs.Inner.Node as spec;

@@ -9,7 +9,8 @@ use Rattle.std.specs.Prelude.{◌∷◌, ◌++◌, Option, None, Some, codes, de
 use Rattle.std.specs.Fmt.{signed_decimal}
 use Rattle.std.specs.List.{position_or_len}
 use Rattle.indexmap.specs.IndexSet.{insert_all}
-use Rattle.rx_term.specs.Tree.{Tree, Trees, none, more, Int, Appl, Items, Hole, annotations, list_of, tree_eq}
+use Rattle.rx_term.specs.Tree.{Tree, Trees, none, more, Int, Appl, Items, Hole, annotations}
+use Rattle.rx_term.specs.Tree.{list_of, tree_eq}
 use Rattle.rx_term.specs.Parts.{own_parts, part_count}
 use Rattle.rx_text.specs.Canon.{name_text, no_arguments}
 

@@ -1,5 +1,5 @@
 -- The laws of looking at terms.
---     LaidSpells       the text over several lines spells its tree, so whoever reads it has that tree
+--     LaidSpells       the text over several lines spells its tree, which whoever reads it has
 --     OrderListsParts  a graph has a node for each different part, and each of them once
 use Rattle.std.specs.Prelude.{◌≡◌, ℕ, IsTrue, Contains, length, map}
 use Rattle.std.specs.List.{IsDistinct}

@@ -5,7 +5,8 @@ use Rattle.std.specs.List.{AllByRecursion}
 use Rattle.std.specs.Option.{option_map_or}
 use Rattle.std.specs.Fmt.{signed_decimal}
 use Rattle.std.specs.Io.KnownBytes.{Appends}
-use Rattle.rx_term.specs.Tree.{Tree, Trees, none, more, Int, Appl, Items, Hole, annotations, items_of}
+use Rattle.rx_term.specs.Tree.{Tree, Trees, none, more, Int, Appl, Items, Hole, annotations}
+use Rattle.rx_term.specs.Tree.{items_of}
 use Rattle.rx_term.specs.Store.{Store, tree_at, signature_of}
 use Rattle.rx_text.specs.Canon.{name_text, no_arguments}
 use Rattle.rx_text.specs.Inner.Jobs.{seen, IsList}

@@ -7,7 +7,8 @@ use Rattle.rx_pattern.specs.Pattern as pattern
 use Rattle.rx_pattern.specs.Pattern.{Unfit, kind_of}
 use Rattle.rx_pattern.specs.Subjects.{OnStack}
 use Rattle.rx_pattern.specs.declared.faults.PatternFault.{PatternFault}
-use Rattle.rx_pattern.specs.declared.faults.PatternFault.TheVariants.{Unknown, Annotated, Memory, Full}
+use Rattle.rx_pattern.specs.declared.faults.PatternFault.TheVariants.{Unknown, Annotated, Memory}
+use Rattle.rx_pattern.specs.declared.faults.PatternFault.TheVariants.{Full}
 
 -- the fault is the reason, or memory ran out
 abbrev pub IsWhy : PatternFault → Option Unfit → Type 0

@@ -4,7 +4,8 @@
 --     tree_of_steps steps   the one tree that they spell
 use Rattle.std.specs.Prelude.{ℕ, Bool, false, ℤ, List, [], ◌∷◌, codes, Option, Some, if◌then◌else◌}
 use Rattle.rx_term.specs.Tree.{Tree, Trees, none, more, Int, Appl, Items, Hole}
-use Rattle.rx_pattern.specs.Pattern.{PlaceholderKind, AnyTerm, AnyInt, AnyStr, AnyAppl, AnyPlaceholder, AnyList, kind_of, is_rest}
+use Rattle.rx_pattern.specs.Pattern.{PlaceholderKind, AnyTerm, AnyInt, AnyStr, AnyAppl}
+use Rattle.rx_pattern.specs.Pattern.{AnyPlaceholder, AnyList, kind_of, is_rest}
 
 -- an integer, a name, a list or a placeholder; the end of a list, one item more of it, or the rest
 -- of it, whatever that is

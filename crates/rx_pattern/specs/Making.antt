@@ -1,11 +1,13 @@
 -- How the tree of nodes is made with trees in their places.
-use Rattle.std.specs.Prelude.{◌≡◌, Bool, true, false, List, [], ◌∷◌, ◌++◌, length, Option, Some, None}
+use Rattle.std.specs.Prelude.{◌≡◌, Bool, true, false, List, [], ◌∷◌, ◌++◌, length, Option, Some}
+use Rattle.std.specs.Prelude.{None}
 use Rattle.rx_term.specs.Name.{IsAllowed}
 use Rattle.rx_term.specs.Tree.{Tree}
 use Rattle.rx_pattern.specs.Pattern.{fits}
 use Rattle.rx_pattern.specs.Filling as filling
 use Rattle.rx_pattern.specs.Filling.{Blank, misfit, takes}
-use Rattle.rx_pattern.specs.Code.{Step, Number, Named, Listing, Holding, End, Item, Rest, Piece, One, Several}
+use Rattle.rx_pattern.specs.Code.{Step, Number, Named, Listing, Holding, End, Item, Rest, Piece}
+use Rattle.rx_pattern.specs.Code.{One, Several}
 use Rattle.rx_pattern.specs.declared.faults.MakeFault.{MakeFault}
 use Rattle.rx_pattern.specs.declared.faults.MakeFault.TheVariants.{Count, Kind, Memory, Full}
 

@@ -1,8 +1,10 @@
 -- The steps that the nodes of a pattern are.
 use Rattle.std.specs.Prelude.{◌≡◌, List, [], map, Some, IsTrue}
 use Rattle.rx_term.specs.Tree.{Tree, is_tree}
-use Rattle.rx_pattern.specs.Pattern.{is_pattern, PlaceholderKind, AnyTerm, AnyInt, AnyStr, AnyAppl, AnyPlaceholder, AnyList}
-use Rattle.rx_pattern.specs.Code.{code, tree_of_steps, Step, Number, Named, Listing, Holding, End, Item, Rest}
+use Rattle.rx_pattern.specs.Pattern.{is_pattern, PlaceholderKind, AnyTerm, AnyInt, AnyStr, AnyAppl}
+use Rattle.rx_pattern.specs.Pattern.{AnyPlaceholder, AnyList}
+use Rattle.rx_pattern.specs.Code.{code, tree_of_steps, Step, Number, Named, Listing, Holding, End}
+use Rattle.rx_pattern.specs.Code.{Item, Rest}
 use Rattle.rx_pattern.specs.declared.nodes.Class.{Class}
 use Rattle.rx_pattern.specs.declared.nodes.Class.TheVariants as class
 use Rattle.rx_pattern.specs.declared.nodes.Node.{Node}

@@ -3,7 +3,8 @@
 --     OnStack R xs ys       the same, where the last of xs goes with the first of ys
 --     meets s v             what a step of a pattern binds of a subject, and what is left of it,
 --                           where it matches the front of it
-use Rattle.std.specs.Prelude.{◌≡◌, ◌&&◌, Bool, true, false, List, [], ◌∷◌, ◌++◌, reverse, bytes_eq, Option, Some, None}
+use Rattle.std.specs.Prelude.{◌≡◌, ◌&&◌, Bool, true, false, List, [], ◌∷◌, ◌++◌, reverse, bytes_eq}
+use Rattle.std.specs.Prelude.{Option, Some, None}
 use Rattle.std.specs.Bool.{beq}
 use Rattle.std.specs.Ordering.{int_eq}
 use Rattle.rx_term.specs.Tree.{Tree, Trees, Int, Appl, Items, none, more, list_of}
@@ -11,7 +12,8 @@ use Rattle.rx_term.specs.Store.{Store, tree_at}
 use Rattle.rx_term.specs.declared.Term.{Term}
 use Rattle.rx_term.specs.Walks.{HaveTrees}
 use Rattle.rx_pattern.specs.Pattern.{fits}
-use Rattle.rx_pattern.specs.Code.{Step, Number, Named, Listing, Holding, End, Item, Rest, Piece, One, Several}
+use Rattle.rx_pattern.specs.Code.{Step, Number, Named, Listing, Holding, End, Item, Rest, Piece}
+use Rattle.rx_pattern.specs.Code.{One, Several}
 
 abbrev pub AreEach : {A B : Type 0} → (A → B → Type 0) → List A → List B → Type 0
 AreEach R [] [] = Unit {0}

@@ -1,6 +1,7 @@
 //! The nodes of a pattern.
 
-ghost use Rattle.std.specs.Prelude.{◌≡◌, ◌++◌, ◌∷◌, [], map, true, IsSome, IsTrue, IfOk, OnOk, Some};
+ghost use Rattle.std.specs.Prelude.{◌≡◌, ◌++◌, ◌∷◌, [], map, true, IsSome, IsTrue, IfOk, OnOk};
+ghost use Rattle.std.specs.Prelude.{Some};
 ghost use Rattle.rx_term.specs.Name.{Signature};
 ghost use Rattle.rx_term.specs.Tree.{Tree, Trees};
 ghost use Rattle.rx_term.specs.Store.{tree_at, signature_of};

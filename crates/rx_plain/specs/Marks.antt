@@ -1,5 +1,6 @@
 -- Marks on slots: what marking some slots, or all that marked slots name, changes.
-use Rattle.std.specs.Prelude.{ℕ, ◌+◌, ◌<◌, ◌≡◌, ◌⊎◌, Bool, true, false, List, [], ◌∷◌, length, Option, Some, None, Contains, if◌then◌else◌, nat_lt}
+use Rattle.std.specs.Prelude.{ℕ, ◌+◌, ◌<◌, ◌≡◌, ◌⊎◌, Bool, true, false, List, [], ◌∷◌, length}
+use Rattle.std.specs.Prelude.{Option, Some, None, Contains, if◌then◌else◌, nat_lt}
 use Rattle.rx_term.specs.Heap.{Cell, links, IsLinked}
 use Rattle.rx_term.specs.declared.Term.{Term}
 use Rattle.rx_plain.specs.Slots.{heap_of, roots_of, marks_of, cell_in}

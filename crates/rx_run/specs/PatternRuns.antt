@@ -3,7 +3,8 @@
 --     IsNoPattern text               it spells none
 --     IsMatchDue pattern input d     what is due where a pattern is matched with a term
 --     IsMakeDue pattern args d       what is due where a tree is made from a pattern and arguments
-use Rattle.std.specs.Prelude.{ℕ, ◌≡◌, List, ◌++◌, Option, Some, None, Result, Ok, Err, codes, flat_map}
+use Rattle.std.specs.Prelude.{ℕ, ◌≡◌, List, ◌++◌, Option, Some, None, Result, Ok, Err, codes}
+use Rattle.std.specs.Prelude.{flat_map}
 use Rattle.rx_term.specs.Tree.{Tree, Items, none, to_list}
 use Rattle.rx_text.specs.Verdict.{Verdict, TooLong, Outside, Spelt, IsVerdict}
 use Rattle.rx_pattern.specs.Pattern.{Unfit, Unknown, Annotated, unfit}

@@ -1,7 +1,8 @@
 -- What a run on the text of one term is to write.
 --     IsTermDue bytes d      what is due where the term is printed
 --     IsShareDue bytes d     what is due where its different parts are counted too
-use Rattle.std.specs.Prelude.{ℕ, ◌≡◌, List, [], ◌++◌, Option, Some, None, codes, decimal, IfSome, IsSome}
+use Rattle.std.specs.Prelude.{ℕ, ◌≡◌, List, [], ◌++◌, Option, Some, None, codes, decimal, IfSome}
+use Rattle.std.specs.Prelude.{IsSome}
 use Rattle.std.specs.Option.{option_map_or}
 use Rattle.rx_term.specs.Tree.{Tree}
 use Rattle.rx_term.specs.Parts.{part_count}

@@ -1,14 +1,17 @@
 -- How cells that name one another stand for trees. A cell may name any other, before or after it,
 -- as long as none leads back to itself.
-use Rattle.std.specs.Prelude.{ℕ, ◌≡◌, ◌<◌, ◌≤◌, Bool, true, false, ◌||◌, ◌&&◌, not, if◌then◌else◌, List}
-use Rattle.std.specs.Prelude.{[], ◌∷◌, ◌++◌, ℤ, Option, Some, None, IsSome, is_some, IsTrue, Contains}
+use Rattle.std.specs.Prelude.{ℕ, ◌≡◌, ◌<◌, ◌≤◌, Bool, true, false, ◌||◌, ◌&&◌, not, if◌then◌else◌}
+use Rattle.std.specs.Prelude.{List}
+use Rattle.std.specs.Prelude.{[], ◌∷◌, ◌++◌, ℤ, Option, Some, None, IsSome, is_some, IsTrue}
+use Rattle.std.specs.Prelude.{Contains}
 use Rattle.std.proofs.Common.{zero, suc, arith}
 use Rattle.std.proofs.Math.Bool.{Bool-set}
 use mathlib.Core.HLevel.{Σ_prop_path}
 use Rattle.std.specs.Option.{option_and_then}
 use Rattle.std.specs.Ordering.{nat_cmp}
 use Rattle.std.specs.FinMap as map
-use Rattle.rx_term.specs.Tree.{Tree, Int, Appl, Items, Hole, Trees, none, more, count_of, annotated, is_i32}
+use Rattle.rx_term.specs.Tree.{Tree, Int, Appl, Items, Hole, Trees, none, more, count_of, annotated}
+use Rattle.rx_term.specs.Tree.{is_i32}
 use Rattle.rx_term.specs.Name.{Signature, is_name}
 use Rattle.rx_term.specs.Store.{longer, applied, held_open}
 

@@ -1,5 +1,6 @@
 -- The steps of a bank: how each call changes the store.
-use Rattle.std.specs.Prelude.{ℕ, ◌+◌, ◌≤◌, ◌<◌, ◌≡◌, ◌≢◌, ◌⊎◌, ◌==◌, Bool, List, Option, Some, Result, Ok, Err, IsSome, if◌then◌else◌, Contains, IsTrue}
+use Rattle.std.specs.Prelude.{ℕ, ◌+◌, ◌≤◌, ◌<◌, ◌≡◌, ◌≢◌, ◌⊎◌, ◌==◌, Bool, List, Option, Some}
+use Rattle.std.specs.Prelude.{Result, Ok, Err, IsSome, if◌then◌else◌, Contains, IsTrue}
 use Rattle.rx_term.specs.Name.{Signature, is_name}
 use Rattle.rx_term.specs.Tree.{Tree, Trees, Appl, count_of, is_tree}
 use Rattle.rx_term.specs.Parts.{parts}

@@ -5,7 +5,8 @@ use Rattle.std.specs.Ordering.{nat_cmp}
 use Rattle.std.specs.Option.{option_and_then}
 use Rattle.std.specs.FinMap as map
 use Rattle.rx_term.specs.Name.{Signature}
-use Rattle.rx_term.specs.Tree.{Tree, Appl, Items, Hole, Trees, none, more, count_of, annotated, annotations, list_of}
+use Rattle.rx_term.specs.Tree.{Tree, Appl, Items, Hole, Trees, none, more, count_of, annotated}
+use Rattle.rx_term.specs.Tree.{annotations, list_of}
 use Rattle.rx_term.specs.declared.Term.{Term}
 use Rattle.rx_term.specs.declared.Symbol.{Symbol}
 

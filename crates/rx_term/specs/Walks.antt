@@ -1,5 +1,6 @@
 -- What those who build and walk trees through a bank promise.
-use Rattle.std.specs.Prelude.{◌≡◌, List, [], ◌∷◌, ◌++◌, Option, Some, None, IsSome, Contains, map, unwrap_or}
+use Rattle.std.specs.Prelude.{◌≡◌, List, [], ◌∷◌, ◌++◌, Option, Some, None, IsSome, Contains, map}
+use Rattle.std.specs.Prelude.{unwrap_or}
 use Rattle.rx_term.specs.Parts.{parts, annotation_parts}
 use Rattle.rx_term.specs.Tree.{Tree, Trees, Items, none, list_of, annotations, to_list}
 use Rattle.rx_term.specs.Store.{Store, tree_at}

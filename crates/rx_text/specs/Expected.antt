@@ -1,5 +1,6 @@
 -- What may stand at the place of a fault.
-use Rattle.std.specs.Prelude.{◌≡◌, ◌↔◌, ℕ, ℤ, pos, Bool, false, List, [], ◌∷◌, ◌++◌, map, Contains, Option, Some, None, is_some}
+use Rattle.std.specs.Prelude.{◌≡◌, ◌↔◌, ℕ, ℤ, pos, Bool, false, List, [], ◌∷◌, ◌++◌, map, Contains}
+use Rattle.std.specs.Prelude.{Option, Some, None, is_some}
 use Rattle.rx_text.specs.Token as tokens
 use Rattle.rx_text.specs.Token.{Token}
 use Rattle.rx_text.specs.Place.{CanGoOn, IsFaultPlace}
@@ -9,8 +10,10 @@ use Rattle.rx_text.specs.Lexemes.{token_of}
 use Rattle.rx_text.specs.Reader.{state_of}
 use Rattle.rx_text.specs.declared.lexer.LexemeKind.{LexemeKind}
 use Rattle.rx_text.specs.declared.token_kind.TokenKind.{TokenKind}
-use Rattle.rx_text.specs.declared.token_kind.TokenKind.TheVariants.{Integer, Name, Open, Close, OpenBracket, CloseBracket}
-use Rattle.rx_text.specs.declared.token_kind.TokenKind.TheVariants.{OpenBrace, CloseBrace, Less, Greater, Comma, End}
+use Rattle.rx_text.specs.declared.token_kind.TokenKind.TheVariants.{Integer, Name, Open, Close}
+use Rattle.rx_text.specs.declared.token_kind.TokenKind.TheVariants.{OpenBracket, CloseBracket}
+use Rattle.rx_text.specs.declared.token_kind.TokenKind.TheVariants.{OpenBrace, CloseBrace, Less}
+use Rattle.rx_text.specs.declared.token_kind.TokenKind.TheVariants.{Greater, Comma, End}
 use Rattle.rx_text.specs.declared.reader.Due.{Due}
 use Rattle.rx_text.specs.declared.reader.Reader.{Reader}
 

@@ -1,5 +1,6 @@
 -- What the reader's tokens stand for.
-use Rattle.std.specs.Prelude.{◌≡◌, ℕ, ◌<◌, ◌≤◌, Bool, true, false, List, [], drop, slice_range, length, Option, Some, None, IsSome, IsTrue}
+use Rattle.std.specs.Prelude.{◌≡◌, ℕ, ◌<◌, ◌≤◌, Bool, true, false, List, [], drop, slice_range}
+use Rattle.std.specs.Prelude.{length, Option, Some, None, IsSome, IsTrue}
 use Rattle.std.specs.List.{list_all}
 use Rattle.rx_term.specs.Name.{is_allowed, is_digit}
 use Rattle.rx_term.specs.Tree.{is_i32}
@@ -7,8 +8,10 @@ use Rattle.rx_text.specs.Token as token
 use Rattle.rx_text.specs.Token.{Token, tokens_from, quoted}
 use Rattle.rx_text.specs.declared.nodes.Word.{Word}
 use Rattle.rx_text.specs.declared.lexer.LexemeKind.{LexemeKind}
-use Rattle.rx_text.specs.declared.lexer.LexemeKind.TheVariants.{Integer, Name, Open, Close, OpenBracket, CloseBracket}
-use Rattle.rx_text.specs.declared.lexer.LexemeKind.TheVariants.{OpenBrace, CloseBrace, Less, Greater, Comma, Bad, End}
+use Rattle.rx_text.specs.declared.lexer.LexemeKind.TheVariants.{Integer, Name, Open, Close}
+use Rattle.rx_text.specs.declared.lexer.LexemeKind.TheVariants.{OpenBracket, CloseBracket}
+use Rattle.rx_text.specs.declared.lexer.LexemeKind.TheVariants.{OpenBrace, CloseBrace, Less}
+use Rattle.rx_text.specs.declared.lexer.LexemeKind.TheVariants.{Greater, Comma, Bad, End}
 
 -- the name that was read up to its closing quote
 abbrev pub quoted_name : Option (List ℕ × ℕ) → List ℕ

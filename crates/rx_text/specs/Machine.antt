@@ -1,7 +1,8 @@
 -- A reader as a machine with a stack, which reads tokens one by one.
 use Rattle.std.specs.Prelude.{ℕ, Bool, false, List, [], ◌∷◌, Option, Some, None}
 use Rattle.rx_term.specs.Tree.{Tree, Trees, none, more, Int, Appl, Items, Hole, annotated}
-use Rattle.rx_text.specs.Token.{Token, Integer, Name, Open, Close, OpenBracket, CloseBracket, OpenBrace, CloseBrace, Less, Greater, Comma, End}
+use Rattle.rx_text.specs.Token.{Token, Integer, Name, Open, Close, OpenBracket, CloseBracket}
+use Rattle.rx_text.specs.Token.{OpenBrace, CloseBrace, Less, Greater, Comma, End}
 
 -- what is open, with the items so far, the last one first
 pub data Frame : Type 0 where

@@ -1,5 +1,6 @@
 -- What the reader's stack and nodes stand for: a state of the machine.
-use Rattle.std.specs.Prelude.{◌≡◌, ℕ, ◌+◌, List, [], ◌∷◌, length, map, drop, reverse, Option, Some, None, Result, Ok, Err, IsTrue}
+use Rattle.std.specs.Prelude.{◌≡◌, ℕ, ◌+◌, List, [], ◌∷◌, length, map, drop, reverse, Option, Some}
+use Rattle.std.specs.Prelude.{None, Result, Ok, Err, IsTrue}
 use Rattle.std.specs.List.{AllByRecursion}
 use Rattle.rx_term.specs.Tree.{Tree, none, annotated, is_i32}
 use Rattle.rx_text.specs.Nodes as nodes

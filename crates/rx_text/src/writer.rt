@@ -10,7 +10,8 @@ ghost use Rattle.rx_text.specs.Canon.{canon, name_text, no_arguments};
 ghost use Rattle.rx_text.specs.Output.{contents_of, IsSameOutput, IsWritable, TellsFault};
 ghost use Rattle.rx_text.specs.Output.{TellsRefusal, Writes, WritesFront};
 ghost use Rattle.rx_text.specs.Written.{AppendsFront};
-ghost use Rattle.rx_text.specs.Inner.Jobs.{seen, body_text, body_size, job_text, job_size, IsJob, Adds};
+ghost use Rattle.rx_text.specs.Inner.Jobs.{seen, body_text, body_size, job_text, job_size, IsJob};
+ghost use Rattle.rx_text.specs.Inner.Jobs.{Adds};
 ghost use Rattle.rx_text.specs.Inner.Jobs.{Leaves};
 
 use crate::faults::{RefusedWrite, WriteFault};

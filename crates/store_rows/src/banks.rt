@@ -3,7 +3,8 @@
 
 ghost use Rattle.std.specs.Prelude.{◌≡◌, ℕ, false, IsSome, IsTrue, IfOk, Some, codes};
 ghost use Rattle.rx_term.specs.Tree.{Tree, Appl, none, more};
-ghost use Rattle.rx_term.specs.Store.{tree_at, part_at, head_of, tail_of, inner_of, held_open, noted};
+ghost use Rattle.rx_term.specs.Store.{tree_at, part_at, head_of, tail_of, inner_of, held_open};
+ghost use Rattle.rx_term.specs.Store.{noted};
 ghost use Rattle.rx_term.specs.Steps.{Grows};
 
 use rx_term::build::constant;

@@ -4,14 +4,17 @@
 --     Stands y ts s ls v      letters and values stand for terms on a stack and a substitution
 --     AreSizes ls ns          how many letters the term has that ends at each letter
 --     Matches left term b     whether the left side of these letters matches the term of those
-use Rattle.std.specs.Prelude.{ℕ, ◌≡◌, ◌<◌, ◌+◌, Bool, true, false, List, [], ◌∷◌, ◌++◌, Option, Some, None}
-use Rattle.std.specs.Prelude.{All, Contains, cond, get_or, is_some, length, nat_eq, option_map, map, take}
+use Rattle.std.specs.Prelude.{ℕ, ◌≡◌, ◌<◌, ◌+◌, Bool, true, false, List, [], ◌∷◌, ◌++◌, Option}
+use Rattle.std.specs.Prelude.{Some, None}
+use Rattle.std.specs.Prelude.{All, Contains, cond, get_or, is_some, length, nat_eq, option_map, map}
+use Rattle.std.specs.Prelude.{take}
 use Rattle.indexmap.specs.IndexMap.{get}
 use Rattle.rx_term.specs.Tree.{Tree}
 use Rattle.rec_syntax.specs.Syntax.{Term, Terms, none, more, Rule, Spec}
 use Rattle.rec_sorts.specs.Lookup.{is_variable}
 use Rattle.rec_sorts.specs.Binding.{Substitution, binds, value_of, tree_of}
-use Rattle.rec_sorts.specs.Numbering.{AreLetters, IsMeaning, Named, name_of, named, named_by, variable_count}
+use Rattle.rec_sorts.specs.Numbering.{AreLetters, IsMeaning, Named, name_of, named, named_by}
+use Rattle.rec_sorts.specs.Numbering.{variable_count}
 use Rattle.rec_sorts.specs.SpecRules.{fault}
 use Rattle.rec_sorts.specs.declared.letters.Letter.{Letter}
 use Rattle.rec_sorts.specs.declared.letters.Meaning.TheVariants.{Variable}

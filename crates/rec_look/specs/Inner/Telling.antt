@@ -1,6 +1,8 @@
 -- How a trace is told by a tracer's turns.
-use Rattle.std.specs.Prelude.{ℕ, zero, suc, ◌-◌, ◌≡◌, ◌≤◌, ◌==◌, ◌++◌, ◌∷◌, Bool, true, false, List, [], Option}
-use Rattle.std.specs.Prelude.{Some, None, Vec, codes, decimal, drop, flat_map, if◌then◌else◌, length, map}
+use Rattle.std.specs.Prelude.{ℕ, zero, suc, ◌-◌, ◌≡◌, ◌≤◌, ◌==◌, ◌++◌, ◌∷◌, Bool, true, false, List}
+use Rattle.std.specs.Prelude.{[], Option}
+use Rattle.std.specs.Prelude.{Some, None, Vec, codes, decimal, drop, flat_map, if◌then◌else◌}
+use Rattle.std.specs.Prelude.{length, map}
 use Rattle.std.specs.Option.{option_to_list}
 use Rattle.std.specs.declared.alloc.Global.{Global}
 use Rattle.rx_term.specs.Tree.{Tree, annotations}
@@ -25,7 +27,8 @@ use Rattle.rec_trace.specs.Trace.{Firing, Trace, Traced}
 use Rattle.rec_trace.specs.Tracing.{Stands, rest_of, whole_of}
 use Rattle.rec_trace.specs.declared.tracer.Tracer.{Tracer}
 use Rattle.rec_look.specs.Inner.Pages.{Prints}
-use Rattle.rec_look.specs.Picks.{Picks, back_count, front_lines, left_out_count, picks_by, rest_lines, shown_lines}
+use Rattle.rec_look.specs.Picks.{Picks, back_count, front_lines, left_out_count, picks_by}
+use Rattle.rec_look.specs.Picks.{rest_lines, shown_lines}
 use Rattle.rec_trace.specs.Lines.{rule_spot}
 use Rattle.rec_look.specs.Traces.{Shown, picked_lines, shown_by, task_text}
 use Rattle.rec_look.specs.declared.given.GivenTerms.{GivenTerms}

@@ -11,7 +11,8 @@ use Rattle.rec_sorts.specs.Numbering.{name_of, arity_of}
 use Rattle.rec_sorts.specs.declared.letters.Meaning.TheVariants.{Symbol}
 use Rattle.rec_match.specs.Rows.{Cell, Row, first_row, opened_cells, kept_cells, changed}
 use Rattle.rec_match.specs.Inner.Running.{root_rows, IsHeaded}
-use Rattle.rec_match.specs.Forests.{Reading, Follows, FitsSwitch, Cases, case_at, number_at, AreCases, roots_at, IsNew}
+use Rattle.rec_match.specs.Forests.{Reading, Follows, FitsSwitch, Cases, case_at, number_at}
+use Rattle.rec_match.specs.Forests.{AreCases, roots_at, IsNew}
 use Rattle.rec_match.specs.declared.forest.Forest.{Forest}
 use Rattle.rec_match.specs.declared.forest.Child.{Child}
 use Rattle.rec_match.specs.declared.forest.Node.{Node}

@@ -1,5 +1,6 @@
 -- Symbols that are marked.
-use Rattle.std.specs.Prelude.{ℕ, ◌≡◌, ◌≢◌, ◌<◌, Bool, true, false, List, Option, Some, None, All, length, get_or}
+use Rattle.std.specs.Prelude.{ℕ, ◌≡◌, ◌≢◌, ◌<◌, Bool, true, false, List, Option, Some, None, All}
+use Rattle.std.specs.Prelude.{length, get_or}
 use Rattle.rec_match.specs.declared.marks.Marks.{Marks}
 
 -- each place that is marked is among some

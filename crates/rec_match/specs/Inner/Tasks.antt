@@ -1,6 +1,7 @@
 -- Nodes of growing matching trees that wait for what is left to ask there, and the steps by which
 -- trees grow.
-use Rattle.std.specs.Prelude.{ℕ, ◌≡◌, ◌≢◌, ◌+◌, ◌<◌, ◌≤◌, ◌⊎◌, Bool, true, false, List, [], ◌∷◌, ◌++◌, All, length, map, get_or, set, ◌-◌, Some}
+use Rattle.std.specs.Prelude.{ℕ, ◌≡◌, ◌≢◌, ◌+◌, ◌<◌, ◌≤◌, ◌⊎◌, Bool, true, false, List, [], ◌∷◌}
+use Rattle.std.specs.Prelude.{◌++◌, All, length, map, get_or, set, ◌-◌, Some}
 use Rattle.rec_syntax.specs.Syntax.{Spec}
 use Rattle.rec_sorts.specs.Lookup.{symbols}
 use Rattle.rec_sorts.specs.Laws.{Every}
@@ -13,7 +14,8 @@ use Rattle.rec_match.specs.Inner.Marking.{HasMarks}
 use Rattle.rec_match.specs.Inner.Starting.{ChainsRules}
 use Rattle.rec_match.specs.Leaves.{code_places}
 use Rattle.rec_match.specs.Matching.{numbers_of}
-use Rattle.rec_match.specs.Parts.{Coded, coded_of, AreDistinct, AreDistinctVariables, AreRows, IsWhole}
+use Rattle.rec_match.specs.Parts.{Coded, coded_of, AreDistinct, AreDistinctVariables, AreRows}
+use Rattle.rec_match.specs.Parts.{IsWhole}
 use Rattle.rec_match.specs.Pushed.{AreLeftParts}
 use Rattle.rec_match.specs.declared.forest.Child.{Child}
 use Rattle.rec_match.specs.declared.forest.Forest.{Forest}

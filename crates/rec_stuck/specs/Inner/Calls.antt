@@ -1,5 +1,6 @@
 -- Calls in a bank, the rules that match them, and their texts.
-use Rattle.std.specs.Prelude.{ℕ, ◌≡◌, ◌<◌, ◌≤◌, List, [], Option, Some, None, false, true, filter, flat_map, if◌then◌else◌, is_some, length, map}
+use Rattle.std.specs.Prelude.{ℕ, ◌≡◌, ◌<◌, ◌≤◌, List, [], Option, Some, None, false, true, filter}
+use Rattle.std.specs.Prelude.{flat_map, if◌then◌else◌, is_some, length, map}
 use Rattle.rx_term.specs.Tree.{Tree, Trees, list_of, count_of}
 use Rattle.rx_term.specs.Store.{Store, args_of, part_at}
 use Rattle.rx_term.specs.Walks.{held_tree}
@@ -20,7 +21,8 @@ use Rattle.rx_run.specs.declared.refusal.Reading.TheVariants.{Good, Refused}
 use Rattle.rec_run.specs.GivenTerms.{given_by}
 use Rattle.rec_run.specs.Run.{Texts}
 use Rattle.rec_run.specs.declared.spec.reading.Job.{Job}
-use Rattle.rec_stuck.specs.Stuck.{IsToldAfter, IsToldFor, bare_of, is_call, stuck_line, stuck_report, stuck_text, value_report}
+use Rattle.rec_stuck.specs.Stuck.{IsToldAfter, IsToldFor, bare_of, is_call, stuck_line}
+use Rattle.rec_stuck.specs.Stuck.{stuck_report, stuck_text, value_report}
 use Rattle.rec_trace.specs.Lines.{rule_spot}
 use Rattle.rec_run.specs.Output.{given_task}
 use Rattle.rec_stuck.specs.declared.fitting.Call.{Call}

@@ -1,5 +1,6 @@
 -- A walk over the applications in a value under way.
-use Rattle.std.specs.Prelude.{ℕ, suc, ◌+◌, ◌≡◌, ◌<◌, ◌⊎◌, true, List, [], ◌∷◌, ◌++◌, IsSome, map, nat_eq}
+use Rattle.std.specs.Prelude.{ℕ, suc, ◌+◌, ◌≡◌, ◌<◌, ◌⊎◌, true, List, [], ◌∷◌, ◌++◌, IsSome, map}
+use Rattle.std.specs.Prelude.{nat_eq}
 use Rattle.std.specs.List.{AllByRecursion, list_any}
 use Rattle.rx_term.specs.Tree.{Tree, Trees, Appl, Items, none, more}
 use Rattle.rx_term.specs.Store.{Store, tree_at}

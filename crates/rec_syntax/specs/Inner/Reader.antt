@@ -1,5 +1,6 @@
 -- What the reader's fields stand for: a state of the machine.
-use Rattle.std.specs.Prelude.{◌≡◌, ℕ, ◌+◌, ◌≤◌, Bool, true, false, List, [], ◌∷◌, length, map, drop, reverse, All, Option, Some, None, Result, Ok, Err}
+use Rattle.std.specs.Prelude.{◌≡◌, ℕ, ◌+◌, ◌≤◌, Bool, true, false, List, [], ◌∷◌, length, map, drop}
+use Rattle.std.specs.Prelude.{reverse, All, Option, Some, None, Result, Ok, Err}
 use Rattle.rec_syntax.specs.Syntax as syntax
 use Rattle.rec_syntax.specs.Syntax.{none}
 use Rattle.rec_syntax.specs.Nodes as nodes
@@ -7,7 +8,8 @@ use Rattle.rec_syntax.specs.Nodes.{newest, assembled, made_by, newest_term}
 use Rattle.rec_syntax.specs.Inner.Machine as machine
 use Rattle.rec_syntax.specs.Inner.Machine.{Frame, State}
 use Rattle.rec_syntax.specs.Lexemes.{word_of, section_of, token_of, Within}
-use Rattle.rec_syntax.specs.Parts.{words_of, node_of, term_of, condition_of, spec_of, IsTerm, IsRule, AreSections}
+use Rattle.rec_syntax.specs.Parts.{words_of, node_of, term_of, condition_of, spec_of, IsTerm}
+use Rattle.rec_syntax.specs.Parts.{IsRule, AreSections}
 use Rattle.rec_syntax.specs.declared.lexer.Span.{Span}
 use Rattle.rec_syntax.specs.declared.lexer.Part.{Part}
 use Rattle.rec_syntax.specs.declared.lexer.LexemeKind.{LexemeKind}
@@ -16,10 +18,13 @@ use Rattle.rec_syntax.specs.declared.parts.Term.{Term}
 use Rattle.rec_syntax.specs.declared.reader.Symbols.{Symbols}
 use Rattle.rec_syntax.specs.declared.reader.Symbols.TheVariants.{Constructors, Operators}
 use Rattle.rec_syntax.specs.declared.reader.Role.{Role}
-use Rattle.rec_syntax.specs.declared.reader.Role.TheVariants.{Left, Right, ConditionLeft, ConditionRight, InEval}
+use Rattle.rec_syntax.specs.declared.reader.Role.TheVariants.{Left, Right, ConditionLeft}
+use Rattle.rec_syntax.specs.declared.reader.Role.TheVariants.{ConditionRight, InEval}
 use Rattle.rec_syntax.specs.declared.reader.Due.{Due}
-use Rattle.rec_syntax.specs.declared.reader.Due.TheVariants.{Start, Title, Between, Named, Arguments, ResultSort, Grouped}
-use Rattle.rec_syntax.specs.declared.reader.Due.TheVariants.{GroupSort, AtTerm, Called, First, After, Ended, Done}
+use Rattle.rec_syntax.specs.declared.reader.Due.TheVariants.{Start, Title, Between, Named}
+use Rattle.rec_syntax.specs.declared.reader.Due.TheVariants.{Arguments, ResultSort, Grouped}
+use Rattle.rec_syntax.specs.declared.reader.Due.TheVariants.{GroupSort, AtTerm, Called, First}
+use Rattle.rec_syntax.specs.declared.reader.Due.TheVariants.{After, Ended, Done}
 use Rattle.rec_syntax.specs.declared.reader.Call.{Call}
 use Rattle.rec_syntax.specs.declared.reader.Reader.{Reader}
 use Rattle.rec_syntax.specs.declared.reader.Stop.{Stop}

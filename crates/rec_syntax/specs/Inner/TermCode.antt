@@ -4,8 +4,10 @@ use Rattle.std.proofs.Common.{ap, sym, ◌∙◌, add-zero, zero-add, append_ass
 use Rattle.std.proofs.lemmas.List.{append-nil}
 use Rattle.std.specs.Coded.{Coded, code_by, coded×, coded_ℕ, coded_bool, coded_list}
 use Rattle.rec_syntax.specs.Tokens.{Word}
-use Rattle.rec_syntax.specs.Syntax.{Term, Terms, Apply, none, more, Declaration, Variables, Condition, Rule, Spec, Sourced}
-use Rattle.rec_syntax.specs.Nodes.{Node, term_count, flat, flat_all, newest, assembled, made_by, newest_term, spelled_by}
+use Rattle.rec_syntax.specs.Syntax.{Term, Terms, Apply, none, more, Declaration, Variables}
+use Rattle.rec_syntax.specs.Syntax.{Condition, Rule, Spec, Sourced}
+use Rattle.rec_syntax.specs.Nodes.{Node, term_count, flat, flat_all, newest, assembled, made_by}
+use Rattle.rec_syntax.specs.Nodes.{newest_term, spelled_by}
 
 -- terms in front of others, the newest first
 abbrev pub onto : Terms → List Term → List Term

@@ -1,5 +1,6 @@
 -- The sides of a rule as rows of steps.
-use Rattle.std.specs.Prelude.{ℕ, ◌≡◌, ◌<◌, true, List, [], Some, None, Contains, get_or, length, slice_get}
+use Rattle.std.specs.Prelude.{ℕ, ◌≡◌, ◌<◌, true, List, [], Some, None, Contains, get_or, length}
+use Rattle.std.specs.Prelude.{slice_get}
 use Rattle.rx_term.specs.Tree.{Tree}
 use Rattle.rx_term.specs.Store.{Store}
 use Rattle.rx_term.specs.Parts.{parts}

@@ -15,7 +15,8 @@ use Rattle.rec_engine.specs.Flat.{taken}
 use Rattle.rec_trace.specs.States.{Move, Give, Invoke, moves}
 use Rattle.rec_trace.specs.Lists.{Hold, listed}
 use Rattle.rec_trace.specs.Inner.Sides.{HasSide, HasValues, IsMatch, move_of}
-use Rattle.rec_trace.specs.Tracing.{AreSteps, IsInOrder, moves_at, moves_of, on_top, result, stack_at}
+use Rattle.rec_trace.specs.Tracing.{AreSteps, IsInOrder, moves_at, moves_of, on_top, result}
+use Rattle.rec_trace.specs.Tracing.{stack_at}
 use Rattle.rec_trace.specs.declared.sides.Side.{Side}
 use Rattle.rec_trace.specs.declared.tracer.Event.{Event}
 use Rattle.rec_trace.specs.declared.tracer.Event.TheVariants as event

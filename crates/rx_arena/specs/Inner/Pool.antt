@@ -1,5 +1,6 @@
 -- What a pool of slots shows: the slots that are taken, and those that may be.
-use Rattle.std.specs.Prelude.{◌≡◌, ℕ, ◌+◌, ◌-◌, ◌<◌, ◌≤◌, ◌^◌, min, List, take, length, get_or, Option, Some, None, Bool, true, false, nat_eq}
+use Rattle.std.specs.Prelude.{◌≡◌, ℕ, ◌+◌, ◌-◌, ◌<◌, ◌≤◌, ◌^◌, min, List, take, length, get_or}
+use Rattle.std.specs.Prelude.{Option, Some, None, Bool, true, false, nat_eq}
 use Rattle.rx_arena.specs.Inner.Node.{Node, mark_of}
 use Rattle.rx_arena.specs.Inner.Held.{IsHeld}
 use Rattle.rx_arena.specs.Put.{times, filled, without}

@@ -2,8 +2,10 @@
 use Rattle.std.specs.Prelude.{◌≡◌, true, Some, List, [], ◌∷◌, ◌++◌, if◌then◌else◌}
 use Rattle.rx_term.specs.Tree.{none, more, Int, Appl, Items, Hole}
 use Rattle.rx_term.specs.Store.{Store, tree_at}
-use Rattle.rx_pattern.specs.Pattern.{kind_of, is_rest, knows_placeholders, has_plain_placeholders, all_known, all_plain}
-use Rattle.rx_pattern.specs.Code.{Step, Number, Named, Listing, Holding, End, Item, Rest, Piece, One, Several}
+use Rattle.rx_pattern.specs.Pattern.{kind_of, is_rest, knows_placeholders, has_plain_placeholders}
+use Rattle.rx_pattern.specs.Pattern.{all_known, all_plain}
+use Rattle.rx_pattern.specs.Code.{Step, Number, Named, Listing, Holding, End, Item, Rest, Piece}
+use Rattle.rx_pattern.specs.Code.{One, Several}
 use Rattle.rx_pattern.specs.Subjects.{OnStack, IsListed}
 use Rattle.rx_pattern.specs.declared.flatten.Job.{Job}
 use Rattle.rx_pattern.specs.declared.flatten.Job.TheVariants as job

@@ -1,5 +1,6 @@
 -- Every bank is sound.
-use Rattle.std.proofs.Common.{List, length, ℕ, ◌≡◌, ◌≤◌, ◌<◌, true, Option, Some, None, is_some, refl, ap, inl, inr, arith}
+use Rattle.std.proofs.Common.{List, length, ℕ, ◌≡◌, ◌≤◌, ◌<◌, true, Option, Some, None, is_some}
+use Rattle.std.proofs.Common.{refl, ap, inl, inr, arith}
 use Rattle.std.specs.FinMap as map
 use Rattle.std.proofs.lemmas.Option.{slice_get_past}
 use Rattle.rx_term.specs.Steps.{IsSound}

@@ -3,7 +3,8 @@
 ghost use Rattle.std.specs.Prelude.{◌++◌, IfErr, OnOk, codes, flat_map};
 ghost use Rattle.rx_term.specs.Walks.{AllHeld};
 ghost use Rattle.rx_text.specs.Output.{IsSameOutput, IsWritable, Writes, contents_of};
-ghost use Rattle.rx_run.specs.Inner.PatternAnswers.{HoldsAnswer, IsAnswerHeld, answer_due, answer_lines};
+ghost use Rattle.rx_run.specs.Inner.PatternAnswers.{HoldsAnswer, IsAnswerHeld, answer_due};
+ghost use Rattle.rx_run.specs.Inner.PatternAnswers.{answer_lines};
 ghost use Rattle.rx_run.specs.Run.{Stops, StopsWriting};
 ghost use Rattle.rx_run.specs.Streams.{TellsWrite};
 ghost use Rattle.rx_run.specs.TermRuns.{line_at};

@@ -74,7 +74,8 @@ pub fn run_make_in<B: TermBank, W: Write>(
     out: &mut W,
 ) -> Result<Ending, RunFault>
     ensures ends { IfOk result (λ ending.
-        Concludes (IsMakeDue pattern.now args.now) ending (W.contents out.old) (W.contents out.new)) }
+        Concludes (IsMakeDue pattern.now args.now) ending
+        (W.contents out.old) (W.contents out.new)) }
     ensures fault { IfErr result (λ fault.
         Breaks (IsMakeDue pattern.now args.now) fault (W.contents out.old) (W.contents out.new)) }
     ensures room { IfErr result (RoomFillsOne (B.store patterns.old) (B.store patterns.new)

@@ -15,7 +15,9 @@ returns c =
     let y = c.args.syntax.now.spec in
     let ts = rule_terms y.rules ++ y.terms in
     let nodes : as_nodes c.deref.result.now ≡ flat_terms ts = ap as_nodes c.deref.ensures.value ∙ c.in_ok-nodes.ensures in
-    if_ok_same c.ill_filled_words.result (ill_filled y) (ill_filled_among c.in_ok-scope.scope.syntax.now.spec (as_nodes c.deref.result.now)) c.ill_filled_words.ensures
+    if_ok_same c.ill_filled_words.result (ill_filled y)
+    (ill_filled_among c.in_ok-scope.scope.syntax.now.spec (as_nodes c.deref.result.now))
+    c.ill_filled_words.ensures
     (λ p. same-ill_filled y ts p
     ∙ ap (λ ns. count_by p (ill_filled_among y ns)) (sym nodes)
     ∙ ap (λ (s : Sourced). count_by p (ill_filled_among s.spec (as_nodes c.deref.result.now))) (sym c.in_ok-scope.ensures.same))

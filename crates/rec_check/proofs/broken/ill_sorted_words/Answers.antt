@@ -15,7 +15,9 @@ returns c =
     let y = c.args.syntax.now.spec in
     let ts = rule_terms y.rules ++ y.terms in
     let nodes : as_nodes c.deref.result.now ≡ flat_terms ts = ap as_nodes c.deref.ensures.value ∙ c.in_ok-nodes.ensures in
-    if_ok_same c.ill_sorted_words.result (ill_sorted y) (ill_sorted_among c.in_ok-scope.scope.syntax.now.spec [] (as_nodes c.deref.result.now)) c.ill_sorted_words.ensures
+    if_ok_same c.ill_sorted_words.result (ill_sorted y)
+    (ill_sorted_among c.in_ok-scope.scope.syntax.now.spec [] (as_nodes c.deref.result.now))
+    c.ill_sorted_words.ensures
     (λ p. same-ill_sorted y [] ts p
     ∙ ap (λ ns. count_by p (ill_sorted_among y [] ns)) (sym nodes)
     ∙ ap (λ (s : Sourced). count_by p (ill_sorted_among s.spec [] (as_nodes c.deref.result.now))) (sym c.in_ok-scope.ensures.same))

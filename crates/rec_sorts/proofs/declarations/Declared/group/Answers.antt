@@ -22,5 +22,6 @@ returns c =
       arguments_added = ap lists c.loop-word.invariant.arguments ∙ sym (append-nil (lists old.arguments));
       within_added = all_within_pushed source old.words.items c.push.new.self.items c.loop-word.self.words.items group.others.items group.first
           c.loop-word.word-index c.in_ok-push.ensures.items c.loop-word.invariant.words c.requires.first c.requires.others;
-      unknown_added = c.loop-word.invariant.unknown ∙ c.earlier_place-self.ensures ∙ ap (earlier old.unknown) (c.in_ok-sort.ensures.missing ∙ sym (earlier_none _));
+      unknown_added = c.loop-word.invariant.unknown ∙ c.earlier_place-self.ensures
+          ∙ ap (earlier old.unknown) (c.in_ok-sort.ensures.missing ∙ sym (earlier_none _));
     }

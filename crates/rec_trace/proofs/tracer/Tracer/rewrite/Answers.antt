@@ -80,7 +80,8 @@ returns-clause-stands g c =
     let made = c.in_ok-apart.ensures in
     let stays = subst (λ l. Stays w1 w2 l m) made.lists c.write_side-made.ensures.stays in
     let gone = copy-gone w1 w2 w3 t.lists m made.twice stays c.end.ensures.counts c.end.ensures.trees in
-    (stands-still c.args.engine.now.spec w w3 t c.requires.stands gone.kept (gone.given ∙ made.trees t.lists.given) (gone.stack ∙ made.trees t.lists.stack)).stands
+    (stands-still c.args.engine.now.spec w w3 t c.requires.stands gone.kept
+    (gone.given ∙ made.trees t.lists.given) (gone.stack ∙ made.trees t.lists.stack)).stands
 
 pub returns-clause-rest : goal.returns-clause-rest
 returns-clause-rest g c =
@@ -93,7 +94,8 @@ returns-clause-rest g c =
     let made = c.in_ok-apart.ensures in
     let stays = subst (λ l. Stays w1 w2 l m) made.lists c.write_side-made.ensures.stays in
     let gone = copy-gone w1 w2 w3 t.lists m made.twice stays c.end.ensures.counts c.end.ensures.trees in
-    (stands-still c.args.engine.now.spec w w3 t c.requires.stands gone.kept (gone.given ∙ made.trees t.lists.given) (gone.stack ∙ made.trees t.lists.stack)).rest
+    (stands-still c.args.engine.now.spec w w3 t c.requires.stands gone.kept
+    (gone.given ∙ made.trees t.lists.given) (gone.stack ∙ made.trees t.lists.stack)).rest
 
 pub returns-clause-whole : goal.returns-clause-whole
 returns-clause-whole g c =
@@ -106,7 +108,8 @@ returns-clause-whole g c =
     let made = c.in_ok-apart.ensures in
     let stays = subst (λ l. Stays w1 w2 l m) made.lists c.write_side-made.ensures.stays in
     let gone = copy-gone w1 w2 w3 t.lists m made.twice stays c.end.ensures.counts c.end.ensures.trees in
-    (stands-still c.args.engine.now.spec w w3 t c.requires.stands gone.kept (gone.given ∙ made.trees t.lists.given) (gone.stack ∙ made.trees t.lists.stack)).whole
+    (stands-still c.args.engine.now.spec w w3 t c.requires.stands gone.kept
+    (gone.given ∙ made.trees t.lists.given) (gone.stack ∙ made.trees t.lists.stack)).whole
 
 pub returns-clause-redex : goal.returns-clause-redex
 returns-clause-redex g c = if-ok c.write_side-made.result (λ m h. c.end.ensures.trees m.redex ∙ h ∙ c.in_ok-apart.ensures.trees c.args.redex)
