@@ -1,7 +1,7 @@
 -- What a matcher answers for a term of a bank.
 use Rattle.std.proofs.Common.{refl, sym, ap, subst, arith, ◌∙◌, inl, inr, drop, length, is_some}
 use Rattle.std.specs.Option.{option_and_then}
-use Rattle.std.specs.Prelude.{ℕ, ℤ, zero, suc, ◌≡◌, ◌<◌, ◌+◌, ◌-◌, Bool, true, false, not, List, [], Option, Some, None, IsSome, get_or}
+use Rattle.std.specs.Prelude.{ℕ, ℤ, zero, suc, ◌≡◌, ◌<◌, ◌≤◌, ◌+◌, ◌-◌, Bool, true, false, not, List, [], Option, Some, None, IsSome, get_or}
 use Rattle.std.proofs.lemmas.List.{length-map}
 use Rattle.rx_term.specs.Name.{Signature, plain_name}
 use Rattle.rx_term.specs.Tree.{Tree, Trees, Appl, Items, none, more, count_of, to_list, from_list}
@@ -246,6 +246,15 @@ module _ (y : Spec) (w : Store) (m : Matcher) (ready : IsReady y w m) (u : Term)
   answer-some bind found i h e =
       let f : HasFound y w m (name_of y (Symbol k)) at work found i = finds-for found (Some i) h in
       record { values = f.values; first = skipped-to ∙ f.first; bound = ap (held_trees w) e ∙ f.bound; held = subst (AllHeld w) (sym e) f.held }
+
+-- no rule is left
+pub answer-past : (y : Spec) (w : Store) (m : Matcher) → IsReady y w m → (u : Term) (k from at : ℕ) (args : Trees) → IsCall y w u k args
+    → Reaches m k from at → length m.sides.items ≤ at → next_match y from (held_tree w u) ≡ None
+answer-past y w m ready u k from at args call reached past =
+    let tree : application (name_of y (Symbol k)) args ≡ held_tree w u = sym call.is in
+    let ruled = ready.matcher.ruled in
+    ap (λ t. first_match y from (drop from y.rules) t) (sym tree) ∙ (reached y w ready call.declared).0 args
+    ∙ nothing y at (application (name_of y (Symbol k)) args) (omega (arith, ruled, past))
 
 -- a call's arguments are as many as it has
 pub arguments-long : (w : Store) (args : Trees) (n : ℕ) (work : List Term) → count_of args ≡ n → held_trees w work ≡ to_list args → n ≡ length work

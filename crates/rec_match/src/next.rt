@@ -54,9 +54,12 @@ impl Matcher {
             (Answers (B.store bank.now) self.now call.term from bind.new.items) }
         ensures empty { IfErr result (λ refused. bind.new.items ≡ []) }
     {
+        let at = self.first_rule(call.number, from);
+        if self.sides.len() <= at as usize {
+            return Ok(None);
+        }
         let count = bank.arity_of(call.symbol);
         push_arguments(bank, bank.args(call.term), count, work)?;
-        let at = self.first_rule(call.number, from);
         let Some(hit) = self.find_rule(bank, call.number, count, at, work)? else {
             return Ok(None);
         };
@@ -80,6 +83,24 @@ impl Matcher {
         ensures answers { IfOk result (Answers (B.store bank.now) self.now u from bind.new.items) }
         ensures empty { IfErr result (λ refused. bind.new.items ≡ []) }
     {
+        let mut work = Vec::new(*bind.allocator());
+        self.next_on(bank, u, from, &mut work, bind)
+    }
+
+    /// The same with room that is lent; nothing is said of what stands in it afterwards.
+    pub fn next_on<B: TermBank>(
+        &self,
+        bank: &B,
+        u: Term,
+        from: u32,
+        work: &mut Vec<Term>,
+        bind: &mut SmallVec<Term, 8>,
+    ) -> Result<Option<u32>, AllocError>
+        requires held { IsSome (tree_at (B.store bank.now) u) }
+        requires ready { AreReady (B.store bank.now) self.now }
+        ensures answers { IfOk result (Answers (B.store bank.now) self.now u from bind.new.items) }
+        ensures empty { IfErr result (λ refused. bind.new.items ≡ []) }
+    {
         bind.clear();
         let Kind::Appl(symbol) = bank.kind(u) else {
             return Ok(None);
@@ -90,12 +111,12 @@ impl Matcher {
         if bank.anns(u).is_some() {
             return Ok(None);
         }
-        let mut work = Vec::new(*bind.allocator());
+        work.clear();
         let call = Call {
             term: u,
             symbol,
             number,
         };
-        self.next_call(bank, call, from, &mut work, bind)
+        self.next_call(bank, call, from, work, bind)
     }
 }

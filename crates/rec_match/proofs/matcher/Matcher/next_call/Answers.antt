@@ -8,7 +8,7 @@ use Rattle.rec_match.proofs.TurnLemmas.{argument_list}
 use Rattle.rec_match.specs.Forests.{StandAbove, values_among}
 use Rattle.rec_match.proofs.RunLemmas.{rest_is}
 use Rattle.rec_match.proofs.SettleLemmas.{stand-above-fewer, above-within, settled-long, settled-rest}
-use Rattle.rec_match.proofs.AnswerLemmas.{declared-number, all-later, is-call, can-find-there, arity-is, arguments-long, answer-none, answer-some}
+use Rattle.rec_match.proofs.AnswerLemmas.{declared-number, all-later, is-call, can-find-there, arity-is, arguments-long, answer-none, answer-past, answer-some}
 use Rattle.rec_match.proofs.matcher.Matcher.next_call.Goals as goal
 
 pub first_rule-at-requires-clause-symbol : goal.first_rule-at-requires-clause-symbol
@@ -38,6 +38,21 @@ find_rule-requires-clause-can g c =
     let call = is-call c.requires.ready.spec w m c.requires.ready.ready u c.args.call.symbol c.args.call.number h c.requires.number c.requires.bare in
     can-find-there w m c.requires.ready u c.args.call.number c.arity_of-count.result c.args.from c.first_rule-at.result h.args call
     (arity-is w u c.args.call.symbol h c.arity_of-count.result c.arity_of-count.ensures) c.first_rule-at.ensures c.push_arguments.new.registers.items are
+
+pub returns-then-len-at-clause-answers : goal.returns-then-len-at-clause-answers
+returns-then-len-at-clause-answers g c = λ y ready. (
+  (
+      let w = g.B.TermBank.store c.args.bank.now in
+      let m = c.args.self.now in
+      let u = c.args.call.term in
+      let h = c.requires.appl in
+      let past : length m.sides.items ≤ c.first_rule-at.result =
+      (let l = c.len.ensures ∙ m.sides.ok.0 in let i = c.if-len-at.true in omega (arith, l, i)) in
+      answer-past y w m ready u c.args.call.number c.args.from c.first_rule-at.result h.args
+      (is-call y w m ready u c.args.call.symbol c.args.call.number h c.requires.number c.requires.bare) c.first_rule-at.ensures past
+      ),
+  c.requires.empty,
+)
 
 pub returns-in_default-clause-answers : goal.returns-in_default-clause-answers
 returns-in_default-clause-answers g c = λ y ready. (

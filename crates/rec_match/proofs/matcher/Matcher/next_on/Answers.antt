@@ -1,7 +1,7 @@
 use Rattle.std.proofs.Common.{sym, subst, ◌∙◌}
 use Rattle.rec_sorts.specs.Linked.{NumberOf}
 use Rattle.rec_match.proofs.AnswerLemmas.{bare-of, no-symbol, none-next, no-number, has-annotations}
-use Rattle.rec_match.proofs.matcher.Matcher.next.Goals as goal
+use Rattle.rec_match.proofs.matcher.Matcher.next_on.Goals as goal
 
 pub returns-in_default : goal.returns-in_default
 returns-in_default g c = record {
