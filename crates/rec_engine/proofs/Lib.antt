@@ -20,6 +20,7 @@ pub mod CompareTurnLemmas
 pub mod RunLemmas
 pub mod JoinLemmas
 pub mod StayLemmas
+pub mod LentLemmas
 pub mod RememberedLemmas
 pub mod PutLemmas
 pub mod CallTurnLemmas

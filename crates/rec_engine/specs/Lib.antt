@@ -7,6 +7,7 @@ pub mod Runs
 pub mod Turn
 pub mod Depth
 pub mod Engine
+pub mod Lent
 pub mod Prepared
 pub mod Remembered
 pub mod Inner

@@ -1,6 +1,7 @@
 //! The engine: a bank, a specification, and what is evaluated over them.
 
 mod calling;
+mod lent;
 mod normalising;
 mod prepared;
 

@@ -15,6 +15,7 @@ mod evaluation;
 mod given;
 mod heap;
 mod hints;
+mod lent;
 mod machine;
 mod pace;
 mod parts;

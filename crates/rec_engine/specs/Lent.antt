@@ -1,0 +1,14 @@
+-- What is made on top of a stack of references that is lent.
+use Rattle.std.specs.Prelude.{ℕ, ◌-◌, ◌≡◌, List, [], ◌∷◌, ◌++◌, Some, length, take, drop}
+use Rattle.rx_term.specs.Store.{Store, tree_at}
+use Rattle.rx_term.specs.Walks.{held_trees}
+use Rattle.rx_term.specs.declared.Term.{Term}
+use Rattle.rec_syntax.specs.Syntax.{Spec}
+use Rattle.rec_engine.specs.Machine.{called}
+
+-- the application of a symbol to the references on top, so many, takes their place
+pub record IsAppliedOn (y : Spec) (old new : Store) (f count : ℕ) (stack stack' : List Term)
+    : Type 0 where
+  pub top : Term
+  pub split : stack' ≡ take (length stack - count) stack ++ top ∷ []
+  pub is : tree_at new top ≡ Some (called y f (held_trees old (drop (length stack - count) stack)))
