@@ -206,11 +206,12 @@ fired-left y w w' old new rule redex n f k =
 
 module _ {W : Type 0} (contents : W → Option (List ℕ)) (z : Spec) (w w' : Store) (old new : Tracer) (telling : Telling) (kept : Kept) (rule : ℕ)
     (redex : Reference) (f : HasFiredAt z w w' old new rule redex) where
-  pub told-turn : (w2 : Store) (kept' : Kept) (out now : Output W) (lines more : ℕ) → rest_of z w2 new ≡ rest_of z w' new → Stands z w2 new
+  pub told-turn : (w2 : Store) (new' : Tracer) (kept' : Kept) (out now : Output W) (lines more : ℕ) → rest_of z w2 new' ≡ rest_of z w' new
+      → Stands z w2 new'
       → ((source : List ℕ) (before : List (List ℕ)) → IsTelling source z telling → HasKept (picks_by telling.options.picked) before kept
       → Tells contents source telling.options before f.firing kept' out now lines more)
-      → HasTold contents z w w2 old new telling kept kept' out now lines more
-  told-turn w2 kept' out now lines more same stands h = record {
+      → HasTold contents z w w2 old new' telling kept kept' out now lines more
+  told-turn w2 new' kept' out now lines more same stands h = record {
     firing = f.firing;
     next = f.next ∙ ap (firing_then f.firing) (sym same);
     stands = stands;

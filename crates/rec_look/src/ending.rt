@@ -9,7 +9,7 @@ ghost use Rattle.rec_engine.specs.Engine.{SameEngine};
 ghost use Rattle.rec_run.specs.EvaluatedLines.{HoldsValue};
 ghost use Rattle.rec_run.specs.Output.{Task, notes_text};
 ghost use Rattle.rec_trace.specs.Lines.{whole_text};
-ghost use Rattle.rec_trace.specs.Lists.{AreKept};
+ghost use Rattle.rec_trace.specs.Lists.{IsKept};
 ghost use Rattle.rec_trace.specs.Tracing.{Stands, rest_of, whole_of};
 ghost use Rattle.rec_look.specs.Inner.Pages.{Breaks, Prints};
 ghost use Rattle.rec_look.specs.Traces.{shown_by, task_text};
@@ -123,7 +123,7 @@ fn write_rest<B: TermBank, W: Write>(
     requires telling { (source : List ℕ) × IsTelling source engine.old.spec telling.now }
     requires open { IsWritable out.old }
     ensures same { SameEngine engine.old engine.new }
-    ensures kept { AreKept (B.store engine.new.bank) tracer.new.lists }
+    ensures list { OnOk result (IsKept (B.store engine.new.bank) tracer.new.saved.list) }
     ensures ok { OnOk result ((source : List ℕ) → IsTelling source engine.old.spec telling.now
         → Prints W.contents out.old out.new lines.old lines.new
         (told source (shown_by telling.now.options) telling.now.options.run.steps notes.now
@@ -152,17 +152,18 @@ fn write_rest<B: TermBank, W: Write>(
 fn first_line<B: TermBank>(
     alloc: Global,
     engine: &mut Engine<B>,
-    tracer: &Tracer,
+    tracer: &mut Tracer,
     options: TraceOptions<'_>,
 ) -> Result<Vec<u8>, EngineFault>
-    requires { Stands engine.old.spec (B.store engine.old.bank) tracer.now }
+    requires { Stands engine.old.spec (B.store engine.old.bank) tracer.old }
     ensures same { SameEngine engine.old engine.new }
-    ensures stands { Stands engine.old.spec (B.store engine.new.bank) tracer.now }
-    ensures rest { rest_of engine.old.spec (B.store engine.new.bank) tracer.now
-        ≡ rest_of engine.old.spec (B.store engine.old.bank) tracer.now }
+    ensures stands { IfOk result
+        (λ line. Stands engine.old.spec (B.store engine.new.bank) tracer.new) }
+    ensures rest { IfOk result (λ line. rest_of engine.old.spec (B.store engine.new.bank) tracer.new
+        ≡ rest_of engine.old.spec (B.store engine.old.bank) tracer.old) }
     ensures text { IfOk result (λ line. line.items ≡ whole_text 0 0 false
         (shown_by options.entry).width 0
-        (whole_of engine.old.spec (B.store engine.old.bank) tracer.now)) }
+        (whole_of engine.old.spec (B.store engine.old.bank) tracer.old)) }
 {
     let whole = tracer.whole(alloc, engine)?;
     let spot = Spot { line: 0, column: 0 };
@@ -180,23 +181,24 @@ fn first_line<B: TermBank>(
 fn write_first<B: TermBank, W: Write>(
     alloc: Global,
     engine: &mut Engine<B>,
-    tracer: &Tracer,
+    tracer: &mut Tracer,
     options: TraceOptions<'_>,
     out: &mut Output<'_, W>,
     lines: &mut u64,
 ) -> Result<(), RunFault>
-    requires stands { Stands engine.old.spec (B.store engine.old.bank) tracer.now }
+    requires stands { Stands engine.old.spec (B.store engine.old.bank) tracer.old }
     requires open { IsWritable out.old }
     ensures same { SameEngine engine.old engine.new }
-    ensures stands { Stands engine.old.spec (B.store engine.new.bank) tracer.now }
-    ensures rest { rest_of engine.old.spec (B.store engine.new.bank) tracer.now
-        ≡ rest_of engine.old.spec (B.store engine.old.bank) tracer.now }
+    ensures stands { OnOk result
+        (Stands engine.old.spec (B.store engine.new.bank) tracer.new) }
+    ensures rest { OnOk result (rest_of engine.old.spec (B.store engine.new.bank) tracer.new
+        ≡ rest_of engine.old.spec (B.store engine.old.bank) tracer.old) }
     ensures ok { OnOk result (Prints W.contents out.old out.new lines.old lines.new
         (first_text (shown_by options.entry)
-        (whole_of engine.old.spec (B.store engine.old.bank) tracer.now))) }
+        (whole_of engine.old.spec (B.store engine.old.bank) tracer.old))) }
     ensures err { IfErr result (Breaks W.contents out.old out.new lines.old
         (first_text (shown_by options.entry)
-        (whole_of engine.old.spec (B.store engine.old.bank) tracer.now))) }
+        (whole_of engine.old.spec (B.store engine.old.bank) tracer.old))) }
     ensures same_output { IsSameOutput out.old out.new }
     ensures cause { TellsWrite out.new result }
 {
@@ -242,7 +244,7 @@ pub(crate) fn write_trace<B: TermBank, W: Write>(
     ensures cause { TellsWrite out.new result }
 {
     let mut tracer = tracer;
-    write_first(alloc, engine, &tracer, telling.options, out, lines)?;
+    write_first(alloc, engine, &mut tracer, telling.options, out, lines)?;
     write_rest(alloc, engine, &mut tracer, telling, notes, out, lines)?;
     tracer.end(engine);
     Ok(())

@@ -73,22 +73,23 @@ pub(crate) fn is_picked<B: TermBank>(bank: &B, telling: &Telling<'_>, fired: Fir
 pub(crate) fn step_text<B: TermBank>(
     alloc: Global,
     engine: &mut Engine<B>,
-    tracer: &Tracer,
+    tracer: &mut Tracer,
     telling: &Telling<'_>,
     fired: Fired,
 ) -> Result<Vec<u8>, EngineFault>
     requires fired { (w : Store) × (t : Tracer) × HasFiredAt engine.old.spec w
-        (B.store engine.old.bank) t tracer.now fired.rule fired.redex }
-    requires stands { Stands engine.old.spec (B.store engine.old.bank) tracer.now }
-    requires left { tracer.now.left ≤ telling.now.options.run.steps }
+        (B.store engine.old.bank) t tracer.old fired.rule fired.redex }
+    requires stands { Stands engine.old.spec (B.store engine.old.bank) tracer.old }
+    requires left { tracer.old.left ≤ telling.now.options.run.steps }
     requires telling { (source : List ℕ) × IsTelling source engine.old.spec telling.now }
     ensures same { SameEngine engine.old engine.new }
-    ensures stands { Stands engine.old.spec (B.store engine.new.bank) tracer.now }
-    ensures rest { rest_of engine.old.spec (B.store engine.new.bank) tracer.now
-        ≡ rest_of engine.old.spec (B.store engine.old.bank) tracer.now }
+    ensures stands { IfOk result
+        (λ line. Stands engine.old.spec (B.store engine.new.bank) tracer.new) }
+    ensures rest { IfOk result (λ line. rest_of engine.old.spec (B.store engine.new.bank) tracer.new
+        ≡ rest_of engine.old.spec (B.store engine.old.bank) tracer.old) }
     ensures text { IfOk result (λ line. (source : List ℕ) (w : Store) (t : Tracer)
         → IsTelling source engine.old.spec telling.now
-        → (f : HasFiredAt engine.old.spec w (B.store engine.old.bank) t tracer.now fired.rule
+        → (f : HasFiredAt engine.old.spec w (B.store engine.old.bank) t tracer.old fired.rule
         fired.redex)
         → line.items ≡ step_line source (shown_by telling.now.options)
         telling.now.options.run.steps f.firing) }

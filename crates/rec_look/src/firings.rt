@@ -5,7 +5,7 @@ ghost use Rattle.rx_text.specs.Output.{IsSameOutput, IsWritable};
 ghost use Rattle.rx_run.specs.Streams.{TellsWrite};
 ghost use Rattle.rec_engine.specs.Engine.{SameEngine};
 ghost use Rattle.rec_trace.specs.Lines.{joined};
-ghost use Rattle.rec_trace.specs.Lists.{AreKept};
+ghost use Rattle.rec_trace.specs.Lists.{IsKept};
 ghost use Rattle.rec_trace.specs.Tracing.{Stands, rest_of};
 ghost use Rattle.rec_look.specs.Inner.Pages.{Breaks, Prints};
 ghost use Rattle.rec_look.specs.Picks.{Picks, by_threes, last_lines, more_line};
@@ -133,7 +133,8 @@ pub(crate) fn write_firings<B: TermBank, W: Write>(
     requires telling { (source : List ℕ) × IsTelling source engine.old.spec telling.now }
     requires open { IsWritable out.old }
     ensures same { SameEngine engine.old engine.new }
-    ensures lists { AreKept (B.store engine.new.bank) tracer.new.lists }
+    ensures list { IfOk result
+        (λ outcome. IsKept (B.store engine.new.bank) tracer.new.saved.list) }
     ensures end { IfOk result (IsEnd (B.store engine.new.bank) telling.now.options.run.steps
         (rest_of engine.old.spec (B.store engine.old.bank) tracer.old).outcome) }
     ensures ok { OnOk result ((source : List ℕ) → IsTelling source engine.old.spec telling.now

@@ -21,24 +21,25 @@ use std::alloc::Global;
 fn picked_line<B: TermBank>(
     alloc: Global,
     engine: &mut Engine<B>,
-    tracer: &Tracer,
+    tracer: &mut Tracer,
     telling: &Telling<'_>,
     fired: Fired,
     kept: &mut Kept,
 ) -> Result<Option<Vec<u8>>, EngineFault>
     requires fired { (w : Store) × (t : Tracer) × HasFiredAt engine.old.spec w
-        (B.store engine.old.bank) t tracer.now fired.rule fired.redex }
-    requires stands { Stands engine.old.spec (B.store engine.old.bank) tracer.now }
-    requires left { tracer.now.left ≤ telling.now.options.run.steps }
+        (B.store engine.old.bank) t tracer.old fired.rule fired.redex }
+    requires stands { Stands engine.old.spec (B.store engine.old.bank) tracer.old }
+    requires left { tracer.old.left ≤ telling.now.options.run.steps }
     requires telling { (source : List ℕ) × IsTelling source engine.old.spec telling.now }
     ensures same { SameEngine engine.old engine.new }
-    ensures stands { Stands engine.old.spec (B.store engine.new.bank) tracer.now }
-    ensures rest { rest_of engine.old.spec (B.store engine.new.bank) tracer.now
-        ≡ rest_of engine.old.spec (B.store engine.old.bank) tracer.now }
+    ensures stands { IfOk result
+        (λ line. Stands engine.old.spec (B.store engine.new.bank) tracer.new) }
+    ensures rest { IfOk result (λ line. rest_of engine.old.spec (B.store engine.new.bank) tracer.new
+        ≡ rest_of engine.old.spec (B.store engine.old.bank) tracer.old) }
     ensures line { IfOk result (λ line. (source : List ℕ) (w : Store) (t : Tracer)
         (before : List (List ℕ)) → IsTelling source engine.old.spec telling.now
         → HasKept (picks_by telling.now.options.picked) before kept.old
-        → (f : HasFiredAt engine.old.spec w (B.store engine.old.bank) t tracer.now fired.rule
+        → (f : HasFiredAt engine.old.spec w (B.store engine.old.bank) t tracer.old fired.rule
         fired.redex)
         → picked_lines source (shown_by telling.now.options) telling.now.options.run.steps
         (f.firing ∷ []) ≡ step_line source (shown_by telling.now.options)
@@ -68,24 +69,25 @@ fn picked_line<B: TermBank>(
 pub(crate) fn next_line<B: TermBank>(
     alloc: Global,
     engine: &mut Engine<B>,
-    tracer: &Tracer,
+    tracer: &mut Tracer,
     telling: &Telling<'_>,
     fired: Fired,
     kept: &mut Kept,
 ) -> Result<Option<Vec<u8>>, EngineFault>
     requires fired { (w : Store) × (t : Tracer) × HasFiredAt engine.old.spec w
-        (B.store engine.old.bank) t tracer.now fired.rule fired.redex }
-    requires stands { Stands engine.old.spec (B.store engine.old.bank) tracer.now }
-    requires left { tracer.now.left ≤ telling.now.options.run.steps }
+        (B.store engine.old.bank) t tracer.old fired.rule fired.redex }
+    requires stands { Stands engine.old.spec (B.store engine.old.bank) tracer.old }
+    requires left { tracer.old.left ≤ telling.now.options.run.steps }
     requires telling { (source : List ℕ) × IsTelling source engine.old.spec telling.now }
     ensures same { SameEngine engine.old engine.new }
-    ensures stands { Stands engine.old.spec (B.store engine.new.bank) tracer.now }
-    ensures rest { rest_of engine.old.spec (B.store engine.new.bank) tracer.now
-        ≡ rest_of engine.old.spec (B.store engine.old.bank) tracer.now }
+    ensures stands { IfOk result
+        (λ line. Stands engine.old.spec (B.store engine.new.bank) tracer.new) }
+    ensures rest { IfOk result (λ line. rest_of engine.old.spec (B.store engine.new.bank) tracer.new
+        ≡ rest_of engine.old.spec (B.store engine.old.bank) tracer.old) }
     ensures line { IfOk result (λ line. (source : List ℕ) (w : Store) (t : Tracer)
         (before : List (List ℕ)) → IsTelling source engine.old.spec telling.now
         → HasKept (picks_by telling.now.options.picked) before kept.old
-        → (f : HasFiredAt engine.old.spec w (B.store engine.old.bank) t tracer.now fired.rule
+        → (f : HasFiredAt engine.old.spec w (B.store engine.old.bank) t tracer.old fired.rule
         fired.redex)
         → TakesUp source telling.now.options before f.firing kept.new line) }
 {

@@ -7,7 +7,7 @@ ghost use Rattle.rx_text.specs.Output.{IsSameOutput, IsWritable};
 ghost use Rattle.rx_run.specs.Streams.{TellsWrite};
 ghost use Rattle.rec_engine.specs.Engine.{SameEngine};
 ghost use Rattle.rec_trace.specs.Lines.{joined};
-ghost use Rattle.rec_trace.specs.Lists.{AreKept};
+ghost use Rattle.rec_trace.specs.Lists.{IsKept};
 ghost use Rattle.rec_trace.specs.Tracing.{HasFiredAt, Stands, rest_of};
 ghost use Rattle.rec_trace.specs.declared.tracer.Tracer.{Tracer};
 ghost use Rattle.rec_look.specs.Inner.Pages.{Breaks, Prints};
@@ -63,7 +63,7 @@ fn print_some<W: Write>(
 fn write_fired<B: TermBank, W: Write>(
     alloc: Global,
     engine: &mut Engine<B>,
-    tracer: &Tracer,
+    tracer: &mut Tracer,
     telling: &Telling<'_>,
     fired: Fired,
     kept: &mut Kept,
@@ -71,26 +71,27 @@ fn write_fired<B: TermBank, W: Write>(
     lines: &mut u64,
 ) -> Result<(), RunFault>
     requires fired { (w : Store) × (t : Tracer) × HasFiredAt engine.old.spec w
-        (B.store engine.old.bank) t tracer.now fired.rule fired.redex }
-    requires stands { Stands engine.old.spec (B.store engine.old.bank) tracer.now }
-    requires left { tracer.now.left ≤ telling.now.options.run.steps }
+        (B.store engine.old.bank) t tracer.old fired.rule fired.redex }
+    requires stands { Stands engine.old.spec (B.store engine.old.bank) tracer.old }
+    requires left { tracer.old.left ≤ telling.now.options.run.steps }
     requires telling { (source : List ℕ) × IsTelling source engine.old.spec telling.now }
     requires open { IsWritable out.old }
     ensures same { SameEngine engine.old engine.new }
-    ensures stands { Stands engine.old.spec (B.store engine.new.bank) tracer.now }
-    ensures rest { rest_of engine.old.spec (B.store engine.new.bank) tracer.now
-        ≡ rest_of engine.old.spec (B.store engine.old.bank) tracer.now }
+    ensures stands { OnOk result
+        (Stands engine.old.spec (B.store engine.new.bank) tracer.new) }
+    ensures rest { OnOk result (rest_of engine.old.spec (B.store engine.new.bank) tracer.new
+        ≡ rest_of engine.old.spec (B.store engine.old.bank) tracer.old) }
     ensures ok { OnOk result ((source : List ℕ) (w : Store) (t : Tracer)
         (before : List (List ℕ)) → IsTelling source engine.old.spec telling.now
         → HasKept (picks_by telling.now.options.picked) before kept.old
-        → (f : HasFiredAt engine.old.spec w (B.store engine.old.bank) t tracer.now fired.rule
+        → (f : HasFiredAt engine.old.spec w (B.store engine.old.bank) t tracer.old fired.rule
         fired.redex)
         → Tells W.contents source telling.now.options before f.firing kept.new out.old out.new
         lines.old lines.new) }
     ensures err { IfErr result (λ fault. (source : List ℕ) (w : Store) (t : Tracer)
         (before : List (List ℕ)) → IsTelling source engine.old.spec telling.now
         → HasKept (picks_by telling.now.options.picked) before kept.old
-        → (f : HasFiredAt engine.old.spec w (B.store engine.old.bank) t tracer.now fired.rule
+        → (f : HasFiredAt engine.old.spec w (B.store engine.old.bank) t tracer.old fired.rule
         fired.redex)
         → Breaks W.contents out.old out.new lines.old
         (joined (fresh_lines (picks_by telling.now.options.picked) before
@@ -122,7 +123,8 @@ fn write_turn<B: TermBank, W: Write>(
     requires telling { (source : List ℕ) × IsTelling source engine.old.spec telling.now }
     requires open { IsWritable out.old }
     ensures same { SameEngine engine.old engine.new }
-    ensures lists { AreKept (B.store engine.new.bank) tracer.new.lists }
+    ensures list { IfOk result
+        (λ outcome. IsKept (B.store engine.new.bank) tracer.new.saved.list) }
     ensures turn { IfOk result (IsToldTurn W.contents engine.old.spec (B.store engine.old.bank)
         (B.store engine.new.bank) tracer.old tracer.new telling.now kept.old kept.new out.old
         out.new lines.old lines.new) }
@@ -135,7 +137,7 @@ fn write_turn<B: TermBank, W: Write>(
     ensures same_output { IsSameOutput out.old out.new }
     ensures cause { TellsWrite out.new result }
 {
-    match tracer.next_event(alloc, engine) {
+    match tracer.next_event(engine) {
         Err(fault) => Err(fault_after(fault, *lines)),
         Ok(Event::Limit) => Ok(Some(Outcome::Limit)),
         Ok(Event::Value { term }) => {
@@ -167,7 +169,8 @@ pub(crate) fn write_steps<B: TermBank, W: Write>(
     requires none { HasKept (picks_by telling.now.options.picked) [] kept.old }
     requires open { IsWritable out.old }
     ensures same { SameEngine engine.old engine.new }
-    ensures lists { AreKept (B.store engine.new.bank) tracer.new.lists }
+    ensures list { IfOk result
+        (λ outcome. IsKept (B.store engine.new.bank) tracer.new.saved.list) }
     ensures end { IfOk result (IsEnd (B.store engine.new.bank) telling.now.options.run.steps
         (rest_of engine.old.spec (B.store engine.old.bank) tracer.old).outcome) }
     ensures kept_on { OnOk result ((source : List ℕ)

@@ -1,14 +1,25 @@
 -- The rules that are tried for a tree, one after another.
 use Rattle.std.proofs.Common.{◌+◌, ◌-◌, ◌<◌, ◌≤◌, ℕ, arith, refl, sym, ap, ◌∙◌, length, drop}
-use Rattle.std.specs.Prelude.{zero, suc, ◌≡◌, Bool, true, false, List, [], ◌∷◌, Option, Some, None, slice_get}
+use Rattle.std.specs.Prelude.{zero, suc, ◌≡◌, get_or, Bool, true, false, List, [], ◌∷◌, Option, Some, None, slice_get}
 use Rattle.std.proofs.lemmas.List.{drop-drop}
 use Rattle.rx_term.specs.Tree.{Tree}
 use Rattle.rec_syntax.specs.Syntax.{Rule, Spec}
 use Rattle.rec_sorts.specs.Binding.{NumberedMatch, Substitution, binds, first_match, next_match}
 use Rattle.rec_sorts.specs.Evaluation.{Outcome, Done, Over, Match, ◌then◌, Eval, Holds, first_rule, holds, spend}
 use Rattle.rx_term.specs.Store.{Store}
+use Rattle.rec_sorts.specs.Binding.{application}
+use Rattle.rec_sorts.specs.Numbering.{name_of}
+use Rattle.rec_sorts.specs.declared.letters.Meaning.TheVariants.{Symbol}
+use Rattle.rx_term.specs.Tree.{Trees}
+use Rattle.rec_match.specs.Next.{IsReady}
+use Rattle.rec_match.specs.declared.matcher.Matcher.{Matcher}
+use Rattle.rec_match.proofs.NextLemmas.{nothing}
+use Rattle.rec_trace.specs.declared.tracer.Found.TheVariants as found
+use Rattle.rec_trace.proofs.ConditionLemmas.{same-first}
 use Rattle.rec_trace.specs.Inner.Sides.{IsMatch}
-use Rattle.rec_trace.specs.Tracing.{AreAnswered, IsSame, moves_at, stack_at}
+use Rattle.rec_trace.specs.Rows.{moves_in, stack_in}
+use Rattle.rec_trace.specs.Tracing.{AreAnswered, IsFound, IsInOrder, IsSame, on_top, stack_at}
+use Rattle.rec_trace.specs.declared.row.Row.{Row}
 use Rattle.rec_trace.specs.declared.tracer.Tracer.{Tracer}
 use Rattle.rec_trace.specs.Inner.Turns.{number_of}
 use Rattle.rec_trace.proofs.SideLemmas.{some-same}
@@ -137,6 +148,11 @@ next-rule y u from i e = by (next_match y from u) refl e
           tries = λ n. k.tries n ∙ ap (λ rs. spend n (λ left. tried y k.rule m.values rs u (Holds y left m.values k.rule.conditions))) front.2;
         }
 
+-- the rule was looked for in the same state
+pub found-here : (x y : Spec) (st st' : List Tree) (from : ℕ) (o : Option ℕ) → x ≡ y → st' ≡ st → number_of (next_match x from (on_top st')) ≡ o
+    → number_of (next_match y from (on_top st)) ≡ o
+found-here x y st st' from o spec stack e = cc
+
 pub no-rule : (y : Spec) (u : Tree) (from : ℕ) → number_of (next_match y from u) ≡ None → (n : ℕ) → first_rule y (Eval y) (drop from y.rules) n u ≡ Done None n
 no-rule y u from e n = by (next_match y from u) refl e
   where
@@ -158,9 +174,9 @@ Tried y w w' a d u i None = first_rule y (Eval y) y.rules a.left u ≡ Over
 
 pub tried-rule : (y : Spec) (w w1 w2 : Store) (a b b' d : Tracer) (u : Tree) (from i : ℕ) (o : Option Bool) (n : NextRule y u from i)
     → IsSame y w w1 a b → first_rule y (Eval y) (drop from y.rules) b.left u ≡ first_rule y (Eval y) y.rules a.left u → 0 < b.left
-    → b'.left ≡ b.left - 1 → moves_at y w1 b' ≡ moves_at y w1 b → stack_at w1 b' ≡ stack_at w1 b
+    → b'.left ≡ b.left - 1 → b'.row ≡ b.row
     → AreAnswered y w1 w2 b' d (Holds y b'.left n.values n.rule.conditions) o → Tried y w w2 a d u i o
-tried-rule y w w1 w2 a b b' d u from i o n state comes some less moves stack h = by o h
+tried-rule y w w1 w2 a b b' d u from i o n state comes some less row h = by o h
   where
     step : first_rule y (Eval y) y.rules a.left u ≡ tried y n.rule n.values (drop (suc i) y.rules) u (Holds y b'.left n.values n.rule.conditions)
     step =
@@ -168,7 +184,13 @@ tried-rule y w w1 w2 a b b' d u from i o n state comes some less moves stack h =
         ∙ ap (λ k. tried y n.rule n.values (drop (suc i) y.rules) u (Holds y k n.values n.rule.conditions)) (sym less)
 
     both : IsSame y w1 w2 b' d → IsSame y w w2 a d
-    both q = record { order = q.order; moves = q.moves ∙ moves ∙ state.moves; stack = q.stack ∙ stack ∙ state.stack }
+    both q = record {
+      order = q.order;
+      moves = q.moves ∙ ap (moves_in y w1) row ∙ state.moves;
+      stack = q.stack ∙ ap (stack_in w1) row ∙ state.stack;
+      steps = q.steps ∙ ap (λ (z : Row). z.steps.items) row ∙ state.steps;
+      long = q.long ∙ ap (λ (z : Row). length z.values.items) row ∙ state.long;
+    }
 
     by : (o : Option Bool) → AreAnswered y w1 w2 b' d (Holds y b'.left n.values n.rule.conditions) o → Tried y w w2 a d u i o
     by (Some true) q = (
@@ -193,3 +215,17 @@ nothing-left y u from i n F next e comes = sym comes ∙ next.tries n
 pub none-of : (o : Option ℕ) → ((x : ℕ) → o ≡ Some x → ⊥) → o ≡ None
 none-of None h = refl
 none-of (Some x) h = absurd (h x refl)
+
+-- a symbol whose first rule is behind all has none
+pub no-rules : (y : Spec) (w : Store) (m : Matcher) → IsReady y w m → (k d : ℕ) → k < length m.heads.items → length m.sides.items ≤ get_or m.heads.items k d
+    → (args : Trees) → next_match y 0 (application (name_of y (Symbol k)) args) ≡ None
+no-rules y w m ready k d lt past args =
+    let ruled = ready.matcher.ruled in
+    (ready.matcher.heads k d lt).0 args
+    ∙ nothing y (get_or m.heads.items k d) (application (name_of y (Symbol k)) args) (omega (arith, ruled, past))
+
+-- so nothing is found for it
+pub found-none : (y : Spec) (w : Store) (t : Tracer) (u : Tree) → IsInOrder y w t → on_top (stack_at w t) ≡ u → next_match y 0 u ≡ None
+    → IsFound y w w t t (first_rule y (Eval y) y.rules t.left (on_top (stack_at w t))) found.Nothing
+found-none y w t u order top none =
+    (no-rule y (on_top (stack_at w t)) 0 (ap (λ v. number_of (next_match y 0 v)) top ∙ ap number_of none) t.left, same-first y w t order)

@@ -1,40 +1,32 @@
--- Letters that become steps: the moves of a term come first.
-use Rattle.std.proofs.Common.{◌+◌, ◌<◌, ◌≤◌, ℕ, arith, refl, sym, ap, subst, ◌∙◌, drop, get_or, length, map, inl, inr}
-use Rattle.std.specs.Prelude.{◌≡◌, Bool, true, false, List, [], ◌∷◌, ◌++◌, Option, Some, None, Contains, IsSome, is_some, reverse, unwrap_or}
-use Rattle.std.proofs.lemmas.List.{get_or-map, length-map, map-append, reverse-append}
-use Rattle.rx_term.specs.Tree.{Tree, Trees, Appl, Int, Items, Hole, from_list, none, more, list_of}
+-- The values of a match, and letters as moves.
+use Rattle.std.proofs.Common.{◌+◌, ◌<◌, ℕ, arith, refl, sym, ap, subst, ◌∙◌, drop, get_or, length, map, inl, inr}
+use Rattle.std.specs.Prelude.{◌≡◌, Bool, true, false, List, [], ◌∷◌, ◌++◌, Option, Some, None, Contains, IsSome}
+use Rattle.std.specs.Prelude.{unwrap_or}
+use Rattle.std.proofs.lemmas.List.{get_or-map, length-map, map-append}
+use Rattle.rx_term.specs.Tree.{Tree, Trees, Appl, Int, Items, Hole, none, more, list_of, tree_eq}
 use Rattle.rx_term.specs.Parts.{parts}
 use Rattle.rx_term.specs.Store.{Store, tree_at}
 use Rattle.rx_term.specs.Walks.{AllHeld, held_tree, held_trees}
 use Rattle.rx_term.specs.declared.Term.{Term as Reference}
-use Rattle.rx_term.proofs.PartsLemmas.{args-part, cons_cases, cons_head, cons_tail, item-part, parts-self, parts-trans, rest-part}
+use Rattle.rx_term.proofs.PartsLemmas.{args-part, cons_cases, item-part, parts-self, parts-trans, rest-part}
 use Rattle.rx_term.proofs.StoreLemmas.{some-value}
 use Rattle.rec_syntax.specs.Syntax.{Term, Terms, Apply, Rule, Spec}
-use Rattle.rec_sorts.specs.Lookup.{count, is_variable, symbols}
+use Rattle.rec_sorts.specs.Lookup.{count, is_variable}
 use Rattle.rec_sorts.specs.TermRules.{arguments}
 use Rattle.rec_sorts.specs.Laws.{Every}
-use Rattle.rec_sorts.specs.Binding.{Bound, Substitution, bind_first, binds, instance, next_match}
-use Rattle.rec_sorts.specs.Binding.{parts_at_variables, parts_at_variables_all, value_of, NumberedMatch}
-use Rattle.rec_sorts.specs.Numbering.{AreLetters, Named, arity_of, name_of, named, named_all, named_by}
+use Rattle.rec_sorts.specs.Binding.{Bound, Substitution, bind_first, binds, instance, next_match, parts_at_variables}
+use Rattle.rec_sorts.specs.Binding.{parts_at_variables_all, value_of, NumberedMatch}
+use Rattle.rec_sorts.specs.Numbering.{AreLetters, Named, named, named_all, named_by}
 use Rattle.rec_sorts.specs.declared.letters.Letter.{Letter}
-use Rattle.rec_sorts.specs.declared.letters.Meaning.TheVariants.{Symbol, Variable}
-use Rattle.rx_term.specs.Tree.{tree_eq}
 use Rattle.rec_match.specs.Next.{IsAnswer}
 use Rattle.rec_match.specs.Rows.{values_of}
-use Rattle.rec_match.proofs.BoundLemmas.{BindsOnly, parts_only, unbound}
-use Rattle.rec_match.proofs.FactLemmas.{facts}
+use Rattle.rec_match.proofs.BoundLemmas.{BindsOnly, parts_only}
 use Rattle.rec_match.proofs.FindLemmas.{first-matched}
 use Rattle.rec_match.proofs.LetterLemmas.{every-at}
-use Rattle.rec_engine.proofs.TermLemmas.{drop-at, drop-end}
+use Rattle.rec_engine.proofs.TermLemmas.{drop-at}
 use Rattle.rec_engine.proofs.TriedRuleLemmas.{no_rule}
-use Rattle.rec_trace.specs.States.{Move, Give, Invoke, moves, moves_all}
-use Rattle.rec_trace.specs.Lists.{AreKept, Hold, IsList, KeepsStack, listed}
-use Rattle.rec_trace.specs.Inner.Sides.{HasValues, IsMatch, IsRead, IsRow, KeepsValues, move_of}
-use Rattle.rec_trace.specs.Tracing.{AreSteps, HasPushed, IsInOrder, moves_at, moves_of}
-use Rattle.rec_trace.specs.declared.lists.Lists.{Lists}
-use Rattle.rec_trace.specs.declared.tracer.Step.{Step}
-use Rattle.rec_trace.specs.declared.tracer.Step.TheVariants as step
-use Rattle.rec_trace.specs.declared.tracer.Tracer.{Tracer}
+use Rattle.rec_trace.specs.States.{Give, Invoke, moves, moves_all}
+use Rattle.rec_trace.specs.Inner.Sides.{HasValues, IsMatch, IsRead, IsRow, move_of}
 use Rattle.rec_trace.proofs.SideLemmas.{rule-at, some-same}
 
 -- a substitution of a match binds variables alone
@@ -99,17 +91,6 @@ binds-parts y l u s e = by (tree_eq (instance (parts_at_variables y [] l u) l) u
     by true q = subst (AreParts u) (some-same (parts_at_variables y [] l u) s q) (bound-parts y u [] l u tt (parts-self u))
     by false q = absurd (cc q)
 
--- a tree of a list is a part of it
-in-list : (xs : List Tree) (u : Tree) → Contains xs u → Contains (parts (list_of (from_list xs))) u
-in-list [] u c = absurd (let l = c.1 in let no : ⊥ = omega (arith, l) in no)
-in-list (x ∷ xs) u c = elim (cons_cases x xs u c) [
-  | inl e ↦ subst (λ v. Contains (parts (list_of (more x (from_list xs)))) v) e (item-part x (from_list xs) none)
-  | inr d ↦ parts-trans (list_of (more x (from_list xs))) (list_of (from_list xs)) u (rest-part x (from_list xs) none) (in-list xs u d)
-]
-
-held-list : (w : Store) (r : Reference) → IsList w r → held_tree w r ≡ list_of (from_list (listed w r))
-held-list w r list = ap (λ (o : Option Tree). unwrap_or o (list_of none)) list
-
 -- a rule that matches is the first at or after its own number
 pub matched-first : (y : Spec) (i : ℕ) (u : Tree) (r : Rule) (s : Substitution) → IsMatch y i u r s
     → next_match y i u ≡ Some (record { number = i; values = s })
@@ -117,7 +98,7 @@ matched-first y i u r s match =
     let at = rule-at y i r match.rule in
     first-matched y i u no_rule s at.within (subst (λ (z : Rule). binds y z.left u ≡ Some s) (sym (at.is no_rule)) match.binds)
 
--- the values of a match at a tree on the stack
+-- the values of a match are parts of a tree
 each-value : (u : Tree) (s : Substitution) → AreParts u s → (w : Store) (bind : List Reference) → held_trees w bind ≡ values_of s → (t : Reference)
     → Contains bind t → Contains (parts u) (held_tree w t)
 each-value u [] h w [] e t c = absurd (let l = c.1 in let no : ⊥ = omega (arith, l) in no)
@@ -135,132 +116,38 @@ each-value u (x ∷ s) h w (b ∷ bs) e t c = elim (cons_cases b bs t c) [
     rest-of-two : (a b : Tree) (xs ys : List Tree) → a ∷ xs ≡ b ∷ ys → xs ≡ ys
     rest-of-two a b xs ys e = cc
 
--- references to the values of a match at a tree on the stack
-pub values-bound : (y : Spec) (w : Store) (stack : Reference) (l : Term) (u : Tree) (s : Substitution) (bind : List Reference) → IsList w stack
-    → Contains (listed w stack) u → binds y l u ≡ Some s → held_trees w bind ≡ values_of s → AllHeld w bind → HasValues w stack bind s
-values-bound y w stack l u s bind list in_stack e values held = record {
+-- a reference that is held has its tree
+pub held-some : (w : Store) (t : Reference) → IsSome (tree_at w t) → tree_at w t ≡ Some (held_tree w t)
+held-some w t h = let x = some-value (tree_at w t) h in x.1 ∙ ap (λ (o : Option Tree). let q : Option Tree = Some (unwrap_or o (list_of none)) in q) (sym x.1)
+
+-- references to the values of a match are parts of its tree
+pub values-bound : (y : Spec) (w : Store) (redex : Reference) (l : Term) (s : Substitution) (bind : List Reference) → binds y l (held_tree w redex) ≡ Some s
+    → held_trees w bind ≡ values_of s → AllHeld w bind → HasValues w redex bind s
+values-bound y w redex l s bind e values held = record {
   values = values;
   held = held;
-  within = λ t c.
-      subst (λ v. Contains (parts v) (held_tree w t)) (sym (held-list w stack list))
-      (parts-trans (list_of (from_list (listed w stack))) u (held_tree w t) (in-list (listed w stack) u in_stack)
-      (each-value u s (binds-parts y l u s e) w bind values t c));
+  within = λ t c. record {
+    tree = held_tree w t;
+    held = held-some w t (held t c);
+    within = each-value (held_tree w redex) s (binds-parts y l (held_tree w redex) s e) w bind values t c;
+  };
 }
 
-pub has-values : (y : Spec) (w : Store) (stack redex : Reference) (i : ℕ) (r : Rule) (s : Substitution) (bind : List Reference) (found : Option ℕ)
-    → IsList w stack → Contains (listed w stack) (held_tree w redex) → IsMatch y i (held_tree w redex) r s → IsAnswer y w redex i bind found
-    → HasValues w stack bind s
-has-values y w stack redex i r s bind found list in_stack match answer = by found answer
+pub has-values : (y : Spec) (w : Store) (redex : Reference) (i : ℕ) (r : Rule) (s : Substitution) (bind : List Reference) (found : Option ℕ)
+    → IsMatch y i (held_tree w redex) r s → IsAnswer y w redex i bind found → HasValues w redex bind s
+has-values y w redex i r s bind found match answer = by found answer
   where
     first : next_match y i (held_tree w redex) ≡ Some (record { number = i; values = s })
     first = matched-first y i (held_tree w redex) r s match
 
-    by : (o : Option ℕ) → IsAnswer y w redex i bind o → HasValues w stack bind s
+    by : (o : Option ℕ) → IsAnswer y w redex i bind o → HasValues w redex bind s
     by None h = absurd (cc (sym h.0 ∙ first))
     by (Some k) h =
         let same : (let a : NumberedMatch = record { number = k; values = h.values } in a) ≡ record { number = i; values = s } =
         some-same (let a : NumberedMatch = record { number = k; values = h.values } in a)
         (record { number = i; values = s }) (sym h.first ∙ first) in
-        values-bound y w stack r.left (held_tree w redex) s bind list in_stack match.binds
+        values-bound y w redex r.left s bind match.binds
         (h.bound ∙ ap (λ (m : NumberedMatch). values_of m.values) same) h.held
-
--- what is a part of the stack stays, and so do the values of a match
-same-trees : (w w' : Store) (bind : List Reference) → ((t : Reference) → Contains bind t → tree_at w' t ≡ tree_at w t) → held_trees w' bind ≡ held_trees w bind
-same-trees w w' [] h = refl
-same-trees w w' (b ∷ bs) h =
-    ap (λ (o : Option Tree). unwrap_or o (list_of none) ∷ held_trees w' bs) (h b (cons_head b bs))
-    ∙ ap (λ xs. held_tree w b ∷ xs) (same-trees w w' bs (λ t c. h t (cons_tail b bs t c)))
-
-held-some : (w : Store) (t : Reference) → IsSome (tree_at w t) → tree_at w t ≡ Some (held_tree w t)
-held-some w t h = let x = some-value (tree_at w t) h in x.1 ∙ ap (λ (o : Option Tree). let q : Option Tree = Some (unwrap_or o (list_of none)) in q) (sym x.1)
-
-pub keeps-values : (w w' : Store) (stack : Reference) (bind : List Reference) → IsList w stack → KeepsStack w w' stack → KeepsValues w w' stack bind
-keeps-values w w' stack bind list keeps s h =
-    let there : IsSome (tree_at w stack) = ap is_some list in
-    let root : tree_at w' stack ≡ tree_at w stack = keeps stack (held_tree w stack) (held-some w stack there) (parts-self (held_tree w stack))
-    ∙ sym (held-some w stack there) in
-    let each : ((t : Reference) → Contains bind t → tree_at w' t ≡ tree_at w t) = λ t c.
-    keeps t (held_tree w t) (held-some w t (h.held t c)) (h.within t c) ∙ sym (held-some w t (h.held t c)) in
-    record {
-      values = same-trees w w' bind each ∙ h.values;
-      held = λ t c. subst IsSome (sym (each t c)) (h.held t c);
-      within = λ t c.
-          subst (λ (o : Option Tree). Contains (parts (unwrap_or o (list_of none))) (held_tree w' t)) (sym root)
-          (subst (λ (o : Option Tree). Contains (parts (held_tree w stack)) (unwrap_or o (list_of none))) (sym (each t c)) (h.within t c));
-    }
-
--- one step more
-snoc-reverse : (xs : List Step) (x : Step) → reverse (xs ++ x ∷ []) ≡ x ∷ reverse xs
-snoc-reverse xs x = reverse-append xs (x ∷ [])
-
--- a variable's value is to be given next
-pub pushed-variable : (y : Spec) (w w' : Store) (old new : Tracer) (i : ℕ) (bind : List Reference) (l : Letter) (v : ℕ) (t : Reference)
-    → IsInOrder y w old → AreKept w' new.lists → l.meaning ≡ Variable v
-    → Hold w' new.lists (held_tree w t ∷ listed w old.lists.given) (listed w old.lists.stack) → new.steps.items ≡ old.steps.items ++ step.Give ∷ []
-    → ((r : Rule) (s : Substitution) (u : Tree) → IsMatch y i u r s → HasValues w old.lists.stack bind s
-    → value_of s (name_of y (Variable v)) ≡ Some (held_tree w t))
-    → HasPushed y w w' old new i bind (named_by y l ∷ [])
-pushed-variable y w w' old new i bind l v t order kept is hold steps value =
-    let turned = ap reverse steps ∙ snoc-reverse old.steps.items step.Give in
-    record {
-      order = record {
-        good = order.good;
-        kept = kept;
-        steps = subst (λ ss. AreSteps y ss (listed w' new.lists.given)) (sym turned)
-            (subst (λ gs. AreSteps y (step.Give ∷ reverse old.steps.items) gs) (sym hold.given) order.steps);
-      };
-      stack = hold.stack;
-      moves = λ r s u match values.
-          ap (λ ss. moves_of y ss (listed w' new.lists.given)) turned ∙ ap (moves_of y (step.Give ∷ reverse old.steps.items)) hold.given
-          ∙ ap (λ (m : Move). m ∷ moves_at y w old) (sym (ap (λ m. at (value_of s (name_of y m)) (name_of y m)) is
-          ∙ ap (λ o. at o (name_of y (Variable v))) (value r s u match values)));
-    }
-  where
-    at : Option Tree → List ℕ → Move
-    at o name = elim o [ Some x ↦ Give x | None ↦ Invoke name l.count ]
-
--- a symbol is to be called next
-pub pushed-symbol : (y : Spec) (w : Store) (old new : Tracer) (i : ℕ) (bind : List Reference) (l : Letter) (k : ℕ) → IsInOrder y w old
-    → new.lists ≡ old.lists → l.meaning ≡ Symbol k → k < length (symbols y) → arity_of y k ≡ l.count
-    → new.steps.items ≡ old.steps.items ++ step.Invoke k l.count ∷ [] → HasPushed y w w old new i bind (named_by y l ∷ [])
-pushed-symbol y w old new i bind l k order lists is lt arity steps =
-    let turned = ap reverse steps ∙ snoc-reverse old.steps.items (step.Invoke k l.count) in
-    record {
-      order = record {
-        good = order.good;
-        kept = subst (AreKept w) (sym lists) order.kept;
-        steps = subst (λ ss. AreSteps y ss (listed w new.lists.given)) (sym turned)
-            (subst (λ (z : Lists). AreSteps y (step.Invoke k l.count ∷ reverse old.steps.items) (listed w z.given)) (sym lists) (lt, arity, order.steps));
-      };
-      stack = ap (λ (z : Lists). listed w z.stack) lists;
-      moves = λ r s u match values.
-          let no_value = unbound y s (binds-only y r.left u s match.binds) (name_of y (Symbol k)) ((facts y order.good).symbol_is_none k lt) in
-          ap (λ ss. moves_of y ss (listed w new.lists.given)) turned ∙ ap (λ (z : Lists).
-          moves_of y (step.Invoke k l.count ∷ reverse old.steps.items) (listed w z.given)) lists
-          ∙ ap (λ (m : Move). m ∷ moves_at y w old) (sym (ap (λ m. at (value_of s (name_of y m)) (name_of y m)) is
-          ∙ ap (λ o. at o (name_of y (Symbol k))) no_value));
-    }
-  where
-    at : Option Tree → List ℕ → Move
-    at o name = elim o [ Some x ↦ Give x | None ↦ Invoke name l.count ]
-
--- names one after the other
-pub pushed-more : (y : Spec) (w w1 w2 : Store) (a b c : Tracer) (i : ℕ) (bind : List Reference) (n : Named) (ns : List Named)
-    → b.lists.stack ≡ a.lists.stack → KeepsValues w w1 a.lists.stack bind → HasPushed y w w1 a b i bind ns → HasPushed y w1 w2 b c i bind (n ∷ [])
-    → HasPushed y w w2 a c i bind (n ∷ ns)
-pushed-more y w w1 w2 a b c i bind n ns same keeps p q = record {
-  order = q.order;
-  stack = q.stack ∙ p.stack;
-  moves = λ r s u match values.
-      q.moves r s u match (subst (λ k. HasValues w1 k bind s) (sym same) (keeps s values))
-      ∙ ap (λ ms. move_of s n ∷ ms) (p.moves r s u match values);
-}
-
--- nothing was pushed yet
-pub pushed-none : (y : Spec) (w : Store) (a : Tracer) (i : ℕ) (bind : List Reference) (ns : List Named) (k : ℕ) → IsInOrder y w a → length ns ≤ k
-    → HasPushed y w w a a i bind (drop k ns)
-pushed-none y w a i bind ns k order le = subst (HasPushed y w w a a i bind) (sym (drop-end ns k le))
-    (record { order = order; stack = refl; moves = λ r s u match values. refl })
 
 -- what has a value has no arguments
 abbrev NoArguments : Substitution → List Named → Type 0

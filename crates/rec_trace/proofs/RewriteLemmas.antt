@@ -1,45 +1,252 @@
--- What a redex becomes, which is written down above it.
-use Rattle.std.proofs.Common.{◌<◌, ℕ, ap, arith, length, subst, sym, ◌∙◌}
-use Rattle.std.specs.Prelude.{◌≡◌, ◌∷◌, Bool, List, Some, false}
-use Rattle.rx_term.specs.Tree.{Tree}
+-- What a redex becomes, and the whole term: rows that are written down apart from a tracer's own one.
+use Rattle.std.proofs.Common.{◌+◌, ◌<◌, ◌-◌, ℕ, ap, append-nil, arith, get_or, length, subst, sym, take, take_all, take_at, ◌∙◌}
+use Rattle.std.proofs.lemmas.List.{length-append}
+use Rattle.std.proofs.lemmas.List.Elements.{Contains-append_left, Contains-push}
+use Rattle.std.specs.Prelude.{◌≡◌, List, [], ◌∷◌, ◌++◌, Contains, Err, IfOk, Ok, Option, Result, Some, Vec, is_some, reverse, unwrap_or}
+use Rattle.std.specs.declared.alloc.Global.{Global}
+use Rattle.rx_term.specs.Tree.{Tree, list_of, none}
 use Rattle.rx_term.specs.Store.{Store, tree_at}
-use Rattle.rx_term.specs.Walks.{held_tree}
+use Rattle.rx_term.specs.Steps.{Keeps}
+use Rattle.rx_term.specs.Walks.{AllHeld, held_tree, held_trees}
 use Rattle.rx_term.specs.declared.Term.{Term as Reference}
+use Rattle.rx_term.proofs.WalkLemmas.{AllHeld-push, AllHeld-take}
 use Rattle.rec_syntax.specs.Syntax.{Rule, Spec}
 use Rattle.rec_sorts.specs.Binding.{Substitution}
-use Rattle.rec_sorts.specs.Evaluation.{evaluate}
-use Rattle.rec_trace.specs.Inner.Sides.{IsMatch, side_of}
-use Rattle.rec_trace.specs.Inner.Turns.{CanTake}
-use Rattle.rec_trace.specs.Tracing.{Gives, IsInOrder, Rewrites, caller, on_top, stack_at}
+use Rattle.rec_match.specs.Next.{IsAnswer}
+use Rattle.rec_trace.specs.Inner.Saving.{Saves}
+use Rattle.rec_trace.specs.Inner.Sides.{HasSide, HasValues, IsMatch, side_of}
+use Rattle.rec_trace.specs.Inner.Spreading.{CanSpread, HasSpread, top_of}
+use Rattle.rec_trace.specs.Lists.{IsSaved, Stays}
+use Rattle.rec_trace.specs.Rows.{AreInRow, IsRow, KeepsParts, Lowers, floor_of, moves_in, moves_of, stack_in, stacked}
+use Rattle.rec_trace.specs.States.{Fits, ahead, moves, written}
+use Rattle.rec_trace.specs.Tracing.{Rewrites, Stands, moves_at, rest_of, stack_at, whole_of}
+use Rattle.rec_trace.specs.declared.row.Row.{Row}
+use Rattle.rec_trace.specs.declared.row.Step.{Step}
+use Rattle.rec_trace.specs.declared.saved.Saved.{Saved}
 use Rattle.rec_trace.specs.declared.sides.Side.TheVariants.{Contractum}
 use Rattle.rec_trace.specs.declared.tracer.Tracer.{Tracer}
-use Rattle.rec_trace.proofs.ConditionLemmas.{can-take, held-as, top-in}
-use Rattle.rec_trace.proofs.FireLemmas.{side-written}
+use Rattle.rec_trace.proofs.ListLemmas.{stays-kept, stays-trans}
+use Rattle.rec_trace.proofs.PushLemmas.{has-values}
+use Rattle.rec_trace.proofs.RowLemmas.{row-stays}
+use Rattle.rec_trace.proofs.RunLemmas.{fits-one}
+use Rattle.rec_trace.proofs.SavedLemmas.{parts-both, parts-fewer, same-tree, saved-keeps, saved-lowers, saved-stays, still-all-held}
+use Rattle.rec_trace.proofs.StateLemmas.{written-moves}
 
--- a redex came on top
-module _ (y : Spec) (w w1 : Store) (a b : Tracer) (i : ℕ) (redex top : Reference) (u v : Tree) (rewrites : Rewrites y i u v)
-    (stack : stack_at w1 b ≡ held_tree w redex ∷ stack_at w a) (redex_at : tree_at w redex ≡ Some u)
-    (top_at : tree_at w1 top ≡ Some (on_top (stack_at w1 b))) where
-  top-is : on_top (stack_at w1 b) ≡ u
-  top-is = ap (λ st. on_top st) stack ∙ held-as w redex u redex_at
+-- a fact of an answer follows from another one, at each answer
+pub if-ok : {A E : Type 0} {P Q : A → Type 0} (r : Result A E) → ((a : A) → P a → Q a) → IfOk r P → IfOk r Q
+if-ok (Ok a) f p = f a p
+if-ok (Err e) f p = tt
 
-  matches : IsMatch y i (on_top (stack_at w1 b)) rewrites.rule rewrites.values
-  matches = subst (λ x. IsMatch y i x rewrites.rule rewrites.values) (sym top-is) (record { rule = rewrites.rule_is; binds = rewrites.binds_is })
+-- a fact that does not speak of the answer
+pub if-always : {A E : Type 0} {P : Type 0} (r : Result A E) → P → IfOk r (λ a. P)
+if-always (Ok a) p = p
+if-always (Err e) p = tt
 
-  pub side-can : CanTake y w1 b i Contractum top
-  side-can =
-      let some : 0 < length (stack_at w1 b) = subst (λ (xs : List Tree). 0 < length xs) (sym stack)
-      (let more_than : 0 < length (held_tree w redex ∷ stack_at w a) = omega arith in more_than) in
-      can-take y w1 b i Contractum top (on_top (stack_at w1 b)) rewrites.rule rewrites.values matches tt top_at (top-in (stack_at w1 b) some)
+held-as : (w : Store) (t : Reference) (u : Tree) → tree_at w t ≡ Some u → held_tree w t ≡ u
+held-as w t u e = ap (λ (o : Option Tree). unwrap_or o (list_of none)) e
 
-  pub side-above : (w2 : Store) (d : Tracer) (more : Bool) → ((r : Rule) (s : Substitution) → IsMatch y i (held_tree w1 top) r s
-      → Gives y w1 w2 b d (evaluate (caller y false) b.left s (side_of r Contractum)) more)
-      → IsInOrder y w2 d × (stack_at w2 d ≡ v ∷ u ∷ stack_at w a)
-  side-above w2 d more gives =
-      let wrote = side-written y w1 w2 b d rewrites.values rewrites.rule.right more
-      (gives rewrites.rule rewrites.values (subst (λ x. IsMatch y i x rewrites.rule rewrites.values)
-      (sym (held-as w1 top (on_top (stack_at w1 b)) top_at)) matches)) in (
-        wrote.1.order,
-        wrote.1.stack ∙ ap (λ x. x ∷ stack_at w1 b) (sym rewrites.result)
-            ∙ ap (λ st. v ∷ st) (stack ∙ ap (λ x. x ∷ stack_at w a) (held-as w redex u redex_at)),
-      )
+-- ---- what a redex becomes
+
+-- a row of one value and no step
+pub record IsApart (r : Row) (redex : Reference) : Type 0 where
+  pub steps : r.steps.items ≡ []
+  pub values : r.values.items ≡ redex ∷ []
+
+pub is-apart : (r first : Row) (empty : Vec Step Global) (redex : Reference) → empty.items ≡ [] → first.steps ≡ empty → first.values.items ≡ []
+    → r.steps ≡ first.steps → r.values.items ≡ first.values.items ++ redex ∷ [] → IsApart r redex
+is-apart r first empty redex empty_is first_steps first_values steps values = record {
+  steps = ap (λ (v : Vec Step Global). v.items) steps ∙ ap (λ (v : Vec Step Global). v.items) first_steps ∙ empty_is;
+  values = values ∙ ap (λ vs. vs ++ redex ∷ []) first_values;
+}
+
+-- moves that can be written down, and the tree that they write
+pub record IsWritten (y : Spec) (w : Store) (r : Row) (v : Tree) : Type 0 where
+  pub row : IsRow y w r
+  pub fits : Fits (moves_in y w r) (length (stack_in w r)) 1
+  pub tree : written (moves_in y w r) (stack_in w r) ≡ v
+
+module _ (y : Spec) (w : Store) (old : Row) (redex : Reference) (i : ℕ) (bind : List Reference) (found : Option ℕ) (u v : Tree) (apart : IsApart old redex)
+    (redex_at : tree_at w redex ≡ Some u) (rewrites : Rewrites y i u v) (answer : IsAnswer y w redex i bind found) where
+  top-is : top_of old ≡ redex
+  top-is = ap (λ (vs : List Reference). get_or vs (length vs - 1) (record { 0 = 0 })) apart.values
+
+  matches : IsMatch y i (held_tree w redex) rewrites.rule rewrites.values
+  matches = subst (λ x. IsMatch y i x rewrites.rule rewrites.values) (sym (held-as w redex u redex_at))
+      (record { rule = rewrites.rule_is; binds = rewrites.binds_is })
+
+  bound : HasValues w redex bind rewrites.values
+  bound = has-values y w redex i rewrites.rule rewrites.values bind found matches answer
+
+  pub apart-can : CanSpread y w old i bind (λ r. HasSide r Contractum)
+  apart-can = (
+    rewrites.rule,
+    rewrites.values,
+    subst (λ t. IsMatch y i (held_tree w t) rewrites.rule rewrites.values) (sym top-is) matches,
+    subst (λ t. HasValues w t bind rewrites.values) (sym top-is) bound,
+    subst (λ (ss : List Step). floor_of (reverse ss) < length old.values.items) (sym apart.steps)
+        (subst (λ (vs : List Reference). 0 < length vs) (sym apart.values) (let more : 0 < length (redex ∷ []) = omega arith in more)),
+    tt,
+  )
+
+  pub apart-spread : (new : Row) → ((r : Rule) (s : Substitution) → IsMatch y i (held_tree w (top_of old)) r s → HasValues w (top_of old) bind s
+      → HasSpread y w old new (moves s (side_of r Contractum))) → IsWritten y w new v
+  apart-spread new spreads =
+      let h = spreads rewrites.rule rewrites.values (subst (λ t. IsMatch y i (held_tree w t) rewrites.rule rewrites.values) (sym top-is) matches)
+      (subst (λ t. HasValues w t bind rewrites.values) (sym top-is) bound) in
+      let before : stack_in w old ≡ held_tree w redex ∷ [] = ap (λ ss. held_trees w (stacked (reverse ss) old.values.items)) apart.steps
+      ∙ ap (λ vs. held_trees w (reverse vs)) apart.values in
+      let stack : stack_in w new ≡ [] = rest-of (held_tree w (top_of old)) (held_tree w redex) (stack_in w new) [] (h.stack ∙ before) in
+      let are : moves_in y w new ≡ moves rewrites.values rewrites.rule.right =
+      h.moves ∙ ap (λ ss. moves rewrites.values rewrites.rule.right ++ moves_of y w (reverse ss)) apart.steps
+      ∙ append-nil (moves rewrites.values rewrites.rule.right) in
+      record {
+        row = h.row;
+        fits = subst (λ ms. Fits ms (length (stack_in w new)) 1) (sym are)
+            (subst (λ (st : List Tree). Fits (moves rewrites.values rewrites.rule.right) (length st) 1) (sym stack)
+            (fits-one rewrites.values rewrites.rule.right));
+        tree = ap (λ ms. written ms (stack_in w new)) are ∙ ap (written (moves rewrites.values rewrites.rule.right)) stack
+            ∙ ap (λ ms. written ms []) (sym (append-nil (moves rewrites.values rewrites.rule.right)))
+            ∙ written-moves rewrites.values rewrites.rule.right [] [] ∙ sym rewrites.result;
+      }
+    where
+      rest-of : (a b : Tree) (xs ys : List Tree) → a ∷ xs ≡ b ∷ ys → xs ≡ ys
+      rest-of a b xs ys e = cc
+
+-- ---- the same state over values whose parts stayed
+
+pub record StandsStill (y : Spec) (w w' : Store) (old new : Tracer) : Type 0 where
+  pub stands : Stands y w' new
+  pub rest : rest_of y w' new ≡ rest_of y w old
+  pub whole : whole_of y w' new ≡ whole_of y w old
+
+pub stands-still : (y : Spec) (w w' : Store) (old new : Tracer) → Stands y w old → new.row.steps.items ≡ old.row.steps.items
+    → new.row.values.items ≡ old.row.values.items → KeepsParts w w' old.row.values.items → IsSaved w' new.row new.saved → new.left ≡ old.left
+    → StandsStill y w w' old new
+stands-still y w w' old new s steps values keeps saved left =
+    let ss = reverse old.row.steps.items in
+    let h = row-stays y w w' ss old.row.values.items s.order.row keeps in
+    let are : moves_at y w' new ≡ moves_at y w old = ap (λ xs. moves_of y w' (reverse xs)) steps ∙ h.moves in
+    let stack : stack_at w' new ≡ stack_at w old = ap (λ xs. held_trees w' (stacked (reverse xs) new.row.values.items)) steps
+    ∙ ap (λ vs. held_trees w' (stacked ss vs)) values ∙ h.stack in
+    record {
+      stands = record {
+        order = record {
+          good = s.order.good;
+          row = subst (λ xs. AreInRow y w' (reverse xs) new.row.values.items) (sym steps) (subst (λ vs. AreInRow y w' ss vs) (sym values) h.row);
+          saved = saved;
+        };
+        fits = subst (λ ms. Fits ms (length (stack_at w' new)) 1) (sym are)
+            (subst (λ (st : List Tree). Fits (moves_at y w old) (length st) 1) (sym stack) s.fits);
+      };
+      rest = ap (λ n. ahead y n (moves_at y w' new) (stack_at w' new)) left ∙ ap (λ ms. ahead y old.left ms (stack_at w' new)) are
+          ∙ ap (ahead y old.left (moves_at y w old)) stack;
+      whole = ap (λ ms. written ms (stack_at w' new)) are ∙ ap (written (moves_at y w old)) stack;
+    }
+
+-- the list is kept, and what others protect stays, as an engine's call follows
+pub stays-called : (w w1 w2 : Store) (a b : Reference) (work : List Reference) → Stays w w1 a b → Keeps w1 w2 work → Stays w w2 a b
+stays-called w w1 w2 a b work stays keeps = stays-trans stays (stays-kept w1 w2 work b stays.kept keeps)
+
+-- all of a row's values were saved, and then the engine was called
+pub record AreKeptAll (w w1 w2 : Store) (old : Row) : Type 0 where
+  pub first : AllHeld w1 old.values.items
+  pub parts : KeepsParts w w2 old.values.items
+
+pub all-kept : (w w1 w2 : Store) (old new : Row) (s : Saved) (work : List Reference) → AllHeld w old.values.items
+    → Saves w w1 old new s (length old.values.items) → Keeps w1 w2 work → AreKeptAll w w1 w2 old
+all-kept w w1 w2 old new s work held saves keeps =
+    let first = still-all-held w w1 old.values.items held saves.parts in
+    let n = length old.values.items in
+    let later : KeepsParts w1 w2 (take n new.values.items) = saved-keeps w1 w2 new s n work saves.saved
+    (subst (λ vs. AllHeld w1 vs) (sym saves.values) first) saves.enough keeps in
+    record {
+      first = first;
+      parts = parts-both w w1 w2 old.values.items held saves.parts
+          (subst (λ vs. KeepsParts w1 w2 vs) (ap (take n) saves.values ∙ take_all n old.values.items (omega arith)) later);
+    }
+
+-- ---- a redex was saved on top of all values
+
+module _ (w : Store) (old above : Row) (redex : Reference) (u : Tree) (held : AllHeld w old.values.items) (redex_at : tree_at w redex ≡ Some u)
+    (values : above.values.items ≡ old.values.items ++ redex ∷ []) where
+  pub above-held : AllHeld w above.values.items
+  above-held = subst (λ vs. AllHeld w vs) (sym values) (AllHeld-push w old.values.items redex held (ap is_some redex_at))
+
+  above-long : length above.values.items ≡ length old.values.items + 1
+  above-long = ap length values ∙ length-append old.values.items (redex ∷ [])
+
+  pub above-redex : (w' : Store) → KeepsParts w w' above.values.items → tree_at w' redex ≡ tree_at w redex
+  above-redex w' keeps = same-tree w w' above.values.items redex (ap is_some redex_at) keeps
+      (subst (λ vs. Contains vs redex) (sym values) (Contains-push old.values.items redex))
+
+  module _ (w1 w2 : Store) (n : ℕ) (many : n ≡ length old.values.items) (more under : Row) (s : Saved) (work : List Reference)
+      (saves : Saves w w1 above more s (n + 1)) (cut : under.values.items ≡ take n more.values.items) (lowers : Lowers more under)
+      (keeps : Keeps w1 w2 work) where
+    all : AreKeptAll w w1 w2 above
+    all = all-kept w w1 w2 above more s work above-held
+        (subst (λ k. Saves w w1 above more s k) (let z : n + 1 ≡ length above.values.items = omega (arith, above-long, many) in z) saves) keeps
+
+    pub under-values : under.values.items ≡ old.values.items
+    under-values = cut ∙ ap (take n) (saves.values ∙ values) ∙ take_at old.values.items (redex ∷ []) n (sym many)
+
+    pub under-parts : KeepsParts w w2 old.values.items
+    under-parts = parts-fewer w w2 above.values.items old.values.items
+        (λ t c. subst (λ vs. Contains vs t) (sym values) (Contains-append_left old.values.items (redex ∷ []) t c)) all.parts
+
+    pub under-redex : tree_at w2 redex ≡ tree_at w redex
+    under-redex = above-redex w2 all.parts
+
+    pub under-saved : IsSaved w2 under s
+    under-saved = saved-stays w1 w2 under s work (saved-lowers w1 more under s saves.saved lowers)
+        (subst (λ vs. AllHeld w1 vs) (sym cut) (AllHeld-take w1 more.values.items n (subst (λ vs. AllHeld w1 vs) (sym saves.values) all.first))) keeps
+
+-- and then it was written down what it becomes
+pub rewritten : (y : Spec) (w w1 w2 : Store) (old new : Tracer) (above more under : Row) (s : Saved) (redex : Reference) (u : Tree) (n : ℕ)
+    (work : List Reference) → Stands y w old → tree_at w redex ≡ Some u → above.values.items ≡ old.row.values.items ++ redex ∷ []
+    → above.steps ≡ old.row.steps → n ≡ length old.row.values.items → Saves w w1 above more s (n + 1) → under.values.items ≡ take n more.values.items
+    → under.steps ≡ more.steps → Lowers more under → Keeps w1 w2 work → new.row ≡ under → new.saved ≡ s → new.left ≡ old.left
+    → StandsStill y w w2 old new
+rewritten y w w1 w2 old new above more under s redex u n work stands redex_at values first many saves cut then lowers keeps row_is saved_is left =
+    let held = stands.order.row.held in
+    stands-still y w w2 old new stands
+    (ap (λ (r : Row). r.steps.items) row_is ∙ ap (λ (v : Vec Step Global). v.items) (then ∙ saves.steps ∙ first))
+    (ap (λ (r : Row). r.values.items) row_is
+    ∙ under-values w old.row above redex u held redex_at values w1 w2 n many more under s work saves cut lowers keeps)
+    (under-parts w old.row above redex u held redex_at values w1 w2 n many more under s work saves cut lowers keeps)
+    (subst (λ r. IsSaved w2 r new.saved) (sym row_is) (subst (λ z. IsSaved w2 under z) (sym saved_is)
+    (under-saved w old.row above redex u held redex_at values w1 w2 n many more under s work saves cut lowers keeps)))
+    left
+
+-- ---- a copy of a row was written down
+
+pub copied : (y : Spec) (w w1 : Store) (old copy : Row) → IsRow y w old → copy.steps.items ≡ old.steps.items → copy.values.items ≡ old.values.items
+    → KeepsParts w w1 old.values.items → IsRow y w1 copy × (moves_in y w1 copy ≡ moves_in y w old) × (stack_in w1 copy ≡ stack_in w old)
+copied y w w1 old copy row steps values keeps =
+    let ss = reverse old.steps.items in
+    let h = row-stays y w w1 ss old.values.items row keeps in (
+      subst (λ xs. AreInRow y w1 (reverse xs) copy.values.items) (sym steps) (subst (λ vs. AreInRow y w1 ss vs) (sym values) h.row),
+      ap (λ xs. moves_of y w1 (reverse xs)) steps ∙ h.moves,
+      ap (λ xs. held_trees w1 (stacked (reverse xs) copy.values.items)) steps ∙ ap (λ vs. held_trees w1 (stacked ss vs)) values ∙ h.stack,
+    )
+
+pub copy-written : (y : Spec) (w w1 : Store) (old : Tracer) (copy : Row) → Stands y w old → copy.steps.items ≡ old.row.steps.items
+    → copy.values.items ≡ old.row.values.items → KeepsParts w w1 old.row.values.items → IsWritten y w1 copy (whole_of y w old)
+copy-written y w w1 old copy stands steps values keeps =
+    let same = copied y w w1 old.row copy stands.order.row steps values keeps in
+    record {
+      row = same.0;
+      fits = subst (λ ms. Fits ms (length (stack_in w1 copy)) 1) (sym same.1)
+          (subst (λ (st : List Tree). Fits (moves_at y w old) (length st) 1) (sym same.2) stands.fits);
+      tree = ap (λ ms. written ms (stack_in w1 copy)) same.1 ∙ ap (written (moves_at y w old)) same.2;
+    }
+
+pub still-after : (y : Spec) (w w1 w2 : Store) (old new : Tracer) (n : ℕ) (work : List Reference) → Stands y w old → n ≡ length old.row.values.items
+    → Saves w w1 old.row new.row new.saved n → Keeps w1 w2 work → new.left ≡ old.left → StandsStill y w w2 old new
+still-after y w w1 w2 old new n work stands many saves keeps left =
+    let all = all-kept w w1 w2 old.row new.row new.saved work stands.order.row.held (subst (λ k. Saves w w1 old.row new.row new.saved k) many saves) keeps in
+    stands-still y w w2 old new stands (ap (λ (v : Vec Step Global). v.items) saves.steps) saves.values all.parts
+    (saved-stays w1 w2 new.row new.saved work saves.saved (subst (λ vs. AllHeld w1 vs) (sym saves.values) all.first) keeps) left
+
+pub copy-answer : {E : Type 0} (y : Spec) (w1 w2 : Store) (copy : Row) (v : Tree) (r : Result Reference E) → IsWritten y w1 copy v
+    → IfOk r (λ t. tree_at w2 t ≡ Some (written (moves_in y w1 copy) (stack_in w1 copy))) → IfOk r (λ t. tree_at w2 t ≡ Some v)
+copy-answer y w1 w2 copy v r wrote h = if-ok r (λ t is. is ∙ ap (λ x. let o : Option Tree = Some x in o) wrote.tree) h

@@ -1,24 +1,26 @@
 -- A row of moves that is gone through: it comes to what its term evaluates to.
 use Rattle.std.proofs.Common.{◌+◌, ◌-◌, ◌<◌, ◌≤◌, ℕ, arith, refl, sym, ap, subst, ◌∙◌, length, drop}
-use Rattle.std.proofs.Common.{take, append_assoc, append-nil, length-append, length-drop, vec_len}
+use Rattle.std.proofs.Common.{min, take, append_assoc, append-nil, length-append, length-drop, vec_len}
 use Rattle.std.specs.Prelude.{zero, suc, ◌≡◌, Bool, true, false, List, [], ◌∷◌, ◌++◌, Option, Some, None, reverse}
-use Rattle.std.proofs.lemmas.List.{length-reverse}
+use Rattle.std.proofs.lemmas.List.{length-reverse, length-take}
 use Rattle.rx_term.specs.Tree.{Tree, Trees, none, more}
 use Rattle.rx_term.specs.Store.{Store}
+use Rattle.rx_term.specs.declared.Term.{Term as Reference}
 use Rattle.rec_syntax.specs.Syntax.{Term, Terms, Apply, Spec}
 use Rattle.rec_sorts.specs.Lookup.{count}
-use Rattle.rec_sorts.specs.Binding.{Substitution, application, instance, instances, value_of}
+use Rattle.rec_sorts.specs.Binding.{Substitution, application, value_of}
 use Rattle.rec_sorts.specs.Evaluation.{Caller, Outcome, Done, Over, Eval, Call, ◌then◌, evaluate, evaluate_all}
 use Rattle.rec_sorts.proofs.EquationLemmas.{meets}
 use Rattle.rec_match.specs.Inner.Asking.{stack_on}
+use Rattle.rec_match.proofs.RunLemmas.{trees_length}
 use Rattle.rec_engine.specs.Flat.{taken}
 use Rattle.rec_engine.proofs.FlatLemmas.{drop-stacked, size, taken-stacked}
 use Rattle.rec_trace.specs.States.{Fits, Give, Invoke, Move, moves, moves_all}
-use Rattle.rec_trace.specs.Lists.{listed}
-use Rattle.rec_trace.specs.Tracing.{AreSteps, Gives, HasMoves, IsInOrder, caller, moves_at, moves_of, result, stack_at}
+use Rattle.rec_trace.specs.Rows.{floor_of, moves_of, stacked}
+use Rattle.rec_trace.specs.Tracing.{Gives, IsInOrder, moves_at, result, stack_at}
 use Rattle.rec_trace.specs.Inner.Turns.{CanTurn, HasRun, Moves}
-use Rattle.rec_trace.specs.declared.tracer.Step.{Step}
-use Rattle.rec_trace.specs.declared.tracer.Step.TheVariants as step
+use Rattle.rec_trace.specs.declared.row.Step.{Step}
+use Rattle.rec_trace.specs.declared.row.Step.TheVariants as step
 use Rattle.rec_trace.specs.declared.tracer.Tracer.{Tracer}
 
 -- each term leaves one value
@@ -115,29 +117,9 @@ run-one c n s t = ap (λ ms. result c n ms []) (sym (append-nil (moves s t))) �
     by (Done v left) = refl
 
 -- where symbols are called, that is evaluation
-pub called-is : (y : Spec) (n : ℕ) (s : Substitution) (t : Term) → evaluate (caller y true) n s t ≡ Eval y n s t
+pub called-is : (y : Spec) (n : ℕ) (s : Substitution) (t : Term) → evaluate (Call y) n s t ≡ Eval y n s t
 unfolding Call
 called-is y n s t = sym (meets y n s t)
-
--- where they are only applied, the term is written down
-mutual
-  pub written-is : (y : Spec) (n : ℕ) (s : Substitution) (t : Term) → evaluate (caller y false) n s t ≡ Done (instance s t) n
-  written-is y n s (Apply w ts) = by (value_of s w.bytes) (written-all-is y n s ts)
-    where
-      by : (o : Option Tree) → evaluate_all (caller y false) n s ts ≡ Done (instances s ts) n
-          → ◌≡◌ {A = Outcome Tree} (elim o [
-            | Some v ↦ Done v n
-            | None ↦ evaluate_all (caller y false) n s ts then λ vs left.
-                Done (application w.bytes vs) left
-          ]) (Done (elim o [ Some v ↦ v | None ↦ application w.bytes (instances s ts) ]) n)
-      by (Some v) all = refl
-      by None all = ap (λ o. o then λ vs left. Done (application w.bytes vs) left) all
-
-  written-all-is : (y : Spec) (n : ℕ) (s : Substitution) (ts : Terms) → evaluate_all (caller y false) n s ts ≡ Done (instances s ts) n
-  written-all-is y n s Terms.none = refl
-  written-all-is y n s (Terms.more t ts) =
-      ap (λ o. o then λ v left. evaluate_all (caller y false) left s ts then λ vs rest. Done (more v vs) rest) (written-is y n s t)
-      ∙ ap (λ o. o then λ vs rest. Done (more (instance s t) vs) rest) (written-all-is y n s ts)
 
 -- values that stand below those that a call takes are none of its
 taken-front : (k : ℕ) (vs base : List Tree) (us : Trees) → k ≤ length vs → taken k (vs ++ base) us ≡ taken k vs us
@@ -195,48 +177,47 @@ can-turn (Give v ∷ ms) j d others le fits = tt
 can-turn (Invoke name k ∷ ms) j d others le fits = let f = fits.0 in omega (arith, f)
 
 -- there are as many moves as steps
-pub moves-long : (y : Spec) (ss : List Step) (gs : List Tree) → AreSteps y ss gs → length (moves_of y ss gs) ≡ length ss
-moves-long y [] gs h = refl
-moves-long y (step.Give ∷ ss) [] h = absurd h
-moves-long y (step.Give ∷ ss) (g ∷ gs) h = ap suc (moves-long y ss gs h)
-moves-long y (step.Invoke f k ∷ ss) gs h = ap suc (moves-long y ss gs h.2)
+pub moves-long : (y : Spec) (w : Store) (ss : List Step) → length (moves_of y w ss) ≡ length ss
+moves-long y w [] = refl
+moves-long y w (step.Give t ∷ ss) = ap suc (moves-long y w ss)
+moves-long y w (step.GiveLast t at ∷ ss) = ap suc (moves-long y w ss)
+moves-long y w (step.Invoke f k ∷ ss) = ap suc (moves-long y w ss)
 
-pub as-many : (y : Spec) (w : Store) (t : Tracer) → IsInOrder y w t → length (moves_at y w t) ≡ length t.steps.items
-as-many y w t order = moves-long y (reverse t.steps.items) (listed w t.lists.given) order.steps ∙ length-reverse t.steps.items
+pub as-many : (y : Spec) (w : Store) (t : Tracer) → length (moves_at y w t) ≡ length t.row.steps.items
+as-many y w t = moves-long y w (reverse t.row.steps.items) ∙ length-reverse t.row.steps.items
 
 -- the moves above some steps are under way
 pub record Running (c : Caller) (y : Spec) (w0 w : Store) (old now : Tracer) (floor : ℕ) : Type 0 where
   pub values : List Tree
   pub order : IsInOrder y w now
-  pub fits : Fits (take (vec_len now.steps - floor) (moves_at y w now)) (length values) 1
-  pub rest : drop (vec_len now.steps - floor) (moves_at y w now) ≡ drop (vec_len old.steps - floor) (moves_at y w0 old)
+  pub fits : Fits (take (vec_len now.row.steps - floor) (moves_at y w now)) (length values) 1
+  pub rest : drop (vec_len now.row.steps - floor) (moves_at y w now) ≡ drop (vec_len old.row.steps - floor) (moves_at y w0 old)
   pub stack : stack_at w now ≡ values ++ stack_at w0 old
-  pub comes : result c now.left (take (vec_len now.steps - floor) (moves_at y w now)) values ≡ result c old.left
-      (take (vec_len old.steps - floor) (moves_at y w0 old)) []
+  pub comes : result c now.left (take (vec_len now.row.steps - floor) (moves_at y w now)) values ≡ result c old.left
+      (take (vec_len old.row.steps - floor) (moves_at y w0 old)) []
 
-module _ (c : Caller) (y : Spec) (w0 w : Store) (old now : Tracer) (floor : ℕ) (r : Running c y w0 w old now floor) (some : floor < vec_len now.steps) where
-  rest_count : ℕ
-  rest_count = vec_len now.steps - floor - 1
-
-  split : vec_len now.steps - floor ≡ suc (vec_len now.steps - floor - 1)
+module _ (c : Caller) (y : Spec) (w0 w : Store) (old now : Tracer) (floor : ℕ) (r : Running c y w0 w old now floor)
+    (some : floor < vec_len now.row.steps) where
+  split : vec_len now.row.steps - floor ≡ suc (vec_len now.row.steps - floor - 1)
   split = omega (arith, some)
 
-  now-fits : Fits (take (suc (vec_len now.steps - floor - 1)) (moves_at y w now)) (length r.values) 1
+  now-fits : Fits (take (suc (vec_len now.row.steps - floor - 1)) (moves_at y w now)) (length r.values) 1
   now-fits = subst (λ k. Fits (take k (moves_at y w now)) (length r.values) 1) split r.fits
 
-  pub running-can : vec_len now.steps ≡ length now.steps.items → CanTurn (moves_at y w now) (length (stack_at w now))
+  pub running-can : vec_len now.row.steps ≡ length now.row.steps.items → CanTurn (moves_at y w now) (length (stack_at w now))
   running-can long =
-      let many = as-many y w now r.order in
+      let many = as-many y w now in
       subst (λ d. CanTurn (moves_at y w now) d) (sym (ap length r.stack ∙ length-append r.values (stack_at w0 old)))
-      (can-turn (moves_at y w now) (vec_len now.steps - floor - 1) (length r.values) (length (stack_at w0 old)) (omega (arith, many, long, some)) now-fits)
+      (can-turn (moves_at y w now) (vec_len now.row.steps - floor - 1) (length r.values) (length (stack_at w0 old))
+      (omega (arith, many, long, some)) now-fits)
 
-  pub running-next : (w' : Store) (new : Tracer) → vec_len new.steps + 1 ≡ vec_len now.steps → IsInOrder y w' new
+  pub running-next : (w' : Store) (new : Tracer) → vec_len new.row.steps + 1 ≡ vec_len now.row.steps → IsInOrder y w' new
       → Moves c now.left new.left (moves_at y w now) (stack_at w now) (moves_at y w' new) (stack_at w' new) true → Running c y w0 w' old new floor
   running-next w' new fewer order h =
       let m = moved c now.left new.left (moves_at y w now) (moves_at y w' new) r.values (stack_at w0 old) (stack_at w' new)
-      (vec_len now.steps - floor - 1) now-fits
+      (vec_len now.row.steps - floor - 1) now-fits
       (subst (λ st. Moves c now.left new.left (moves_at y w now) st (moves_at y w' new) (stack_at w' new) true) r.stack h) in
-      let same : vec_len now.steps - floor - 1 ≡ vec_len new.steps - floor = omega (arith, fewer) in
+      let same : vec_len now.row.steps - floor - 1 ≡ vec_len new.row.steps - floor = omega (arith, fewer) in
       record {
         values = m.values;
         order = order;
@@ -248,10 +229,11 @@ module _ (c : Caller) (y : Spec) (w0 w : Store) (old now : Tracer) (floor : ℕ)
       }
 
   pub running-failed : (w' : Store) (new : Tracer) → Moves c now.left new.left (moves_at y w now) (stack_at w now) (moves_at y w' new)
-      (stack_at w' new) false → result c old.left (take (vec_len old.steps - floor) (moves_at y w0 old)) [] ≡ Over
+      (stack_at w' new) false → result c old.left (take (vec_len old.row.steps - floor) (moves_at y w0 old)) [] ≡ Over
   running-failed w' new h =
       sym r.comes ∙ ap (λ k. result c now.left (take k (moves_at y w now)) r.values) split
-      ∙ failed c now.left new.left (moves_at y w now) (moves_at y w' new) r.values (stack_at w0 old) (stack_at w' new) (vec_len now.steps - floor - 1) now-fits
+      ∙ failed c now.left new.left (moves_at y w now) (moves_at y w' new) r.values (stack_at w0 old) (stack_at w' new)
+      (vec_len now.row.steps - floor - 1) now-fits
       (subst (λ st. Moves c now.left new.left (moves_at y w now) st (moves_at y w' new) (stack_at w' new) false) r.stack h)
 
 one-of : (vs : List Tree) → length vs ≡ 1 → (v : Tree) × (vs ≡ v ∷ [])
@@ -259,10 +241,10 @@ one-of [] e = let no : ⊥ = omega (arith, e) in absurd no
 one-of (v ∷ []) e = (v, refl)
 one-of (v ∷ u ∷ vs) e = let no : ⊥ = omega (arith, e) in absurd no
 
-pub running-ends : (c : Caller) (y : Spec) (w0 w : Store) (old now : Tracer) (floor : ℕ) → Running c y w0 w old now floor → vec_len now.steps ≤ floor
-    → HasRun c y w0 w old now (vec_len old.steps - floor) true
+pub running-ends : (c : Caller) (y : Spec) (w0 w : Store) (old now : Tracer) (floor : ℕ) → Running c y w0 w old now floor → vec_len now.row.steps ≤ floor
+    → HasRun c y w0 w old now (vec_len old.row.steps - floor) true
 running-ends c y w0 w old now floor r le =
-    let zero_left : vec_len now.steps - floor ≡ 0 = omega (arith, le) in
+    let zero_left : vec_len now.row.steps - floor ≡ 0 = omega (arith, le) in
     let one = one-of r.values (subst (λ k. Fits (take k (moves_at y w now)) (length r.values) 1) zero_left r.fits) in (
       one.0,
       sym r.comes ∙ ap (λ k. result c now.left (take k (moves_at y w now)) r.values) zero_left ∙ ap (λ vs. result c now.left [] vs) one.1,
@@ -284,40 +266,102 @@ drop-all [] ns k e = ap (λ j. drop j ns) e
 drop-all (m ∷ ms) ns zero e = let no : ⊥ = omega (arith, e) in absurd no
 drop-all (m ∷ ms) ns (suc k) e = drop-all ms ns k (omega (arith, e))
 
--- so the steps above those that stood there are the term's
-pub record IsInFront (y : Spec) (w w' : Store) (old new : Tracer) (ms : List Move) (floor : ℕ) : Type 0 where
-  pub within : floor ≤ vec_len new.steps
-  pub front : take (vec_len new.steps - floor) (moves_at y w' new) ≡ ms
-  pub back : drop (vec_len new.steps - floor) (moves_at y w' new) ≡ moves_at y w old
+-- how many are stacked depends on how many values there are
+stacked-same : (ss : List Step) (vs us : List Reference) → length vs ≡ length us → length (stacked ss vs) ≡ length (stacked ss us)
+stacked-same [] vs us e = length-reverse vs ∙ e ∙ sym (length-reverse us)
+stacked-same (step.Give t ∷ ss) vs us e = stacked-same ss vs us e
+stacked-same (step.GiveLast t at ∷ ss) vs us e =
+    let low = stacked-same ss (take at vs) (take at us) (length-take at vs ∙ ap (min at) e ∙ sym (length-take at us)) in
+    length-append (reverse (drop (suc at) vs)) (stacked ss (take at vs))
+    ∙ ap (λ k. k + length (stacked ss (take at vs))) (length-reverse (drop (suc at) vs) ∙ length-drop (suc at) vs)
+    ∙ (let q : length vs - suc at + length (stacked ss (take at vs)) ≡ length us - suc at + length (stacked ss (take at us)) = omega (arith, low, e) in q)
+    ∙ ap (λ k. k + length (stacked ss (take at us))) (sym (length-reverse (drop (suc at) us) ∙ length-drop (suc at) us))
+    ∙ sym (length-append (reverse (drop (suc at) us)) (stacked ss (take at us)))
+stacked-same (step.Invoke f k ∷ ss) vs us e = stacked-same ss vs us e
 
-pub in-front : (y : Spec) (w w' : Store) (old new : Tracer) (ms : List Move) (floor : ℕ) → IsInOrder y w old → IsInOrder y w' new
-    → moves_at y w' new ≡ ms ++ moves_at y w old → vec_len old.steps ≡ length old.steps.items → vec_len new.steps ≡ length new.steps.items
-    → floor ≡ vec_len old.steps
-    → IsInFront y w w' old new ms floor
-in-front y w w' old new ms floor order order' split long long' is =
-    let many = as-many y w old order in
-    let many' = as-many y w' new order' in
-    let both = ap length split ∙ length-append ms (moves_at y w old) in
-    let count : vec_len new.steps - floor ≡ length ms = omega (arith, many, many', both, long, long', is) in
+-- and grows with them
+stacked-more : (ss : List Step) (vs us : List Reference) → floor_of ss ≤ length vs → floor_of ss ≤ length us
+    → length (stacked ss us) + length vs ≡ length (stacked ss vs) + length us
+stacked-more [] vs us le le' = let a = length-reverse vs in let b = length-reverse us in omega (arith, a, b)
+stacked-more (step.Give t ∷ ss) vs us le le' = stacked-more ss vs us le le'
+stacked-more (step.GiveLast t at ∷ ss) vs us le le' =
+    let low = stacked-same ss (take at vs) (take at us)
+    (length-take at vs ∙ (let q : min at (length vs) ≡ min at (length us) = omega (arith, le, le') in q) ∙ sym (length-take at us)) in
+    let a = length-append (reverse (drop (suc at) vs)) (stacked ss (take at vs)) in
+    let b = length-append (reverse (drop (suc at) us)) (stacked ss (take at us)) in
+    let a' = length-reverse (drop (suc at) vs) ∙ length-drop (suc at) vs in
+    let b' = length-reverse (drop (suc at) us) ∙ length-drop (suc at) us in
+    omega (arith, low, a, b, a', b', le, le')
+stacked-more (step.Invoke f k ∷ ss) vs us le le' = stacked-more ss vs us le le'
+
+-- so below the same steps as many values stand as before, or as many more as the stack is longer
+pub as-long : (y : Spec) (w w' : Store) (old new : Tracer) (k : ℕ) → IsInOrder y w old → IsInOrder y w' new → new.row.steps.items ≡ old.row.steps.items
+    → length (stack_at w' new) ≡ k + length (stack_at w old) → length new.row.values.items ≡ k + length old.row.values.items
+as-long y w w' old new k order order' steps long =
+    let here = order.row.floor in
+    let there : floor_of (reverse old.row.steps.items) ≤ length new.row.values.items =
+    subst (λ (xs : List Step). floor_of (reverse xs) ≤ length new.row.values.items) steps order'.row.floor in
+    let more = stacked-more (reverse old.row.steps.items) old.row.values.items new.row.values.items here there in
+    let a = trees_length w (stacked (reverse old.row.steps.items) old.row.values.items) in
+    let b : length (stack_at w' new) ≡ length (stacked (reverse old.row.steps.items) new.row.values.items) =
+    trees_length w' (stacked (reverse new.row.steps.items) new.row.values.items)
+    ∙ ap (λ (xs : List Step). length (stacked (reverse xs) new.row.values.items)) steps in
+    omega (arith, more, a, b, long)
+
+-- the moves of a side come first, over the same values
+pub record HasEntered (y : Spec) (w : Store) (old new : Tracer) (ms : List Move) : Type 0 where
+  pub order : IsInOrder y w new
+  pub left_is : new.left ≡ old.left
+  pub moves : moves_at y w new ≡ ms ++ moves_at y w old
+  pub stack : stack_at w new ≡ stack_at w old
+  pub steps : take (length old.row.steps.items) new.row.steps.items ≡ old.row.steps.items
+
+-- so the steps above those that stood there are the term's
+pub record IsInFront (y : Spec) (w : Store) (old new : Tracer) (ms : List Move) (floor : ℕ) : Type 0 where
+  pub within : floor ≤ vec_len new.row.steps
+  pub front : take (vec_len new.row.steps - floor) (moves_at y w new) ≡ ms
+  pub back : drop (vec_len new.row.steps - floor) (moves_at y w new) ≡ moves_at y w old
+
+pub in-front : (y : Spec) (w : Store) (old new : Tracer) (ms : List Move) (floor : ℕ) → HasEntered y w old new ms
+    → vec_len old.row.steps ≡ length old.row.steps.items → vec_len new.row.steps ≡ length new.row.steps.items → floor ≡ vec_len old.row.steps
+    → IsInFront y w old new ms floor
+in-front y w old new ms floor h long long' is =
+    let many = as-many y w old in
+    let many' = as-many y w new in
+    let both = ap length h.moves ∙ length-append ms (moves_at y w old) in
+    let count : vec_len new.row.steps - floor ≡ length ms = omega (arith, many, many', both, long, long', is) in
     record {
       within = omega (arith, many, many', both, long, long', is);
-      front = ap (take (vec_len new.steps - floor)) split ∙ take-front ms (moves_at y w old) (vec_len new.steps - floor) count;
-      back = ap (drop (vec_len new.steps - floor)) split ∙ drop-all ms (moves_at y w old) (vec_len new.steps - floor) count;
+      front = ap (take (vec_len new.row.steps - floor)) h.moves ∙ take-front ms (moves_at y w old) (vec_len new.row.steps - floor) count;
+      back = ap (drop (vec_len new.row.steps - floor)) h.moves ∙ drop-all ms (moves_at y w old) (vec_len new.row.steps - floor) count;
     }
 
 -- a side of a rule was gone through
-pub side-gives : (y : Spec) (w w1 w2 : Store) (old mid new : Tracer) (floor : ℕ) (called : Bool) (s : Substitution) (t : Term) (yes : Bool)
-    → HasMoves y w w1 old mid (moves s t) → IsInFront y w w1 old mid (moves s t) floor → mid.left ≡ old.left
-    → HasRun (caller y called) y w1 w2 mid new (vec_len mid.steps - floor) yes → Gives y w w2 old new (evaluate (caller y called) old.left s t) yes
-side-gives y w w1 w2 old mid new floor called s t true h f left run = (
+pub side-gives : (y : Spec) (w w' : Store) (old mid new : Tracer) (floor : ℕ) (s : Substitution) (t : Term) (yes : Bool) → IsInOrder y w old
+    → HasEntered y w old mid (moves s t) → IsInFront y w old mid (moves s t) floor → floor ≡ length old.row.steps.items
+    → HasRun (Call y) y w w' mid new (vec_len mid.row.steps - floor) yes → (yes ≡ true → new.row.steps.items ≡ take floor mid.row.steps.items)
+    → Gives y w w' old new (evaluate (Call y) old.left s t) yes
+side-gives y w w' old mid new floor s t true order h f is run rest = (
   run.0,
   evaluated ∙ run.1,
-  record { order = run.2.order; moves = run.2.moves ∙ f.back; stack = run.2.stack ∙ ap (λ st. run.0 ∷ st) h.stack },
+  record {
+    order = run.2.order;
+    moves = run.2.moves ∙ f.back;
+    stack = stack;
+    steps = steps;
+    long = let longer = ap length stack in let more = as-long y w w' old new 1 order run.2.order steps (omega (arith, longer)) in omega (arith, more);
+  },
 )
   where
-    evaluated : evaluate (caller y called) old.left s t ≡ result (caller y called) mid.left (take (vec_len mid.steps - floor) (moves_at y w1 mid)) []
-    evaluated = sym (run-one (caller y called) old.left s t) ∙ ap (λ n. result (caller y called) n (moves s t) []) (sym left)
-        ∙ ap (λ ms. result (caller y called) mid.left ms []) (sym f.front)
-side-gives y w w1 w2 old mid new floor called s t false h f left run =
-    sym (run-one (caller y called) old.left s t) ∙ ap (λ n. result (caller y called) n (moves s t) []) (sym left)
-    ∙ ap (λ ms. result (caller y called) mid.left ms []) (sym f.front) ∙ run
+    evaluated : evaluate (Call y) old.left s t ≡ result (Call y) mid.left (take (vec_len mid.row.steps - floor) (moves_at y w mid)) []
+    evaluated = sym (run-one (Call y) old.left s t) ∙ ap (λ n. result (Call y) n (moves s t) []) (sym h.left_is)
+        ∙ ap (λ ms. result (Call y) mid.left ms []) (sym f.front)
+
+    stack : stack_at w' new ≡ run.0 ∷ stack_at w old
+    stack = run.2.stack ∙ ap (λ st. run.0 ∷ st) h.stack
+
+    steps : new.row.steps.items ≡ old.row.steps.items
+    steps = rest refl ∙ ap (λ k. take k mid.row.steps.items) is ∙ h.steps
+side-gives y w w' old mid new floor s t false order h f is run rest =
+    sym (run-one (Call y) old.left s t) ∙ ap (λ n. result (Call y) n (moves s t) []) (sym h.left_is)
+    ∙ ap (λ ms. result (Call y) mid.left ms []) (sym f.front) ∙ run

@@ -133,9 +133,9 @@ pub record MatchFacts (y : Spec) (w : Store) (m : Matcher) (i : ℕ) (r : Rule) 
   pub known : (v : ℕ) → v < length (variable_words y.variables) → mentions (heads (subterms r.left)) (name_of y (Variable v)) ≡ true
       → Contains (variables_at m i) v
 
-pub match-facts : (y : Spec) (w : Store) (m : Matcher) (stack : Reference) (i : ℕ) (u : Tree) (r : Rule) (s : Substitution) (bind : List Reference)
-    → IsReady y w m → IsMatch y i u r s → HasValues w stack bind s → MatchFacts y w m i r bind s
-match-facts y w m stack i u r s bind ready match values =
+pub match-facts : (y : Spec) (w : Store) (m : Matcher) (whole : Reference) (i : ℕ) (u : Tree) (r : Rule) (s : Substitution) (bind : List Reference)
+    → IsReady y w m → IsMatch y i u r s → HasValues w whole bind s → MatchFacts y w m i r bind s
+match-facts y w m whole i u r s bind ready match values =
     let at = rule-at y i r match.rule in
     let kept = ready.matcher.kept in
     let ruled = ready.matcher.ruled in

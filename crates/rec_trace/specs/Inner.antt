@@ -1,4 +1,5 @@
 -- What the proofs speak of inside this crate: no public contract cites it.
-pub mod Calls
+pub mod Saving
 pub mod Sides
+pub mod Spreading
 pub mod Turns

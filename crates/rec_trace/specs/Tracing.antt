@@ -1,58 +1,39 @@
 -- What a tracer stands for, and what its turns come to.
-use Rattle.std.specs.Prelude.{ℕ, ◌≡◌, ◌<◌, Bool, true, false, List, [], ◌∷◌, ◌++◌, Option, Some}
-use Rattle.std.specs.Prelude.{None, drop, get_or, length, map, reverse, slice_get}
+use Rattle.std.specs.Prelude.{ℕ, suc, ◌≡◌, Bool, true, false, List, [], ◌∷◌, Option, Some}
+use Rattle.std.specs.Prelude.{None, drop, get_or, length, slice_get}
 use Rattle.rx_term.specs.Tree.{Tree, none, list_of}
 use Rattle.rx_term.specs.Store.{Store, tree_at}
 use Rattle.rx_term.specs.declared.Term.{Term as Reference}
 use Rattle.rec_syntax.specs.Syntax.{Rule, Spec}
-use Rattle.rec_sorts.specs.Lookup.{symbols}
 use Rattle.rec_sorts.specs.Binding.{Substitution, application, binds, instance}
-use Rattle.rec_sorts.specs.Evaluation.{Caller, Outcome, Done, Over, Match, Call, ◌then◌}
-use Rattle.rec_sorts.specs.Numbering.{Named, arity_of, name_of}
+use Rattle.rec_sorts.specs.Evaluation.{Caller, Outcome, Done, Over, Match, ◌then◌}
 use Rattle.rec_sorts.specs.SpecRules.{fault}
-use Rattle.rec_sorts.specs.declared.letters.Meaning.TheVariants.{Symbol}
 use Rattle.rec_engine.specs.Flat.{taken}
 use Rattle.rec_trace.specs.Trace.{Firing, Traced, quiet}
 use Rattle.rec_trace.specs.States.{Move, Give, Invoke, Fits, ahead, firing_then, written}
-use Rattle.rec_trace.specs.Lists.{AreKept, listed}
-use Rattle.rec_trace.specs.Inner.Sides.{HasValues, IsMatch, move_of}
+use Rattle.rec_trace.specs.Rows.{IsRow, moves_in, stack_in}
+use Rattle.rec_trace.specs.Lists.{IsSaved}
+use Rattle.rec_trace.specs.Inner.Sides.{IsMatch}
 use Rattle.rec_trace.specs.declared.tracer.Event.{Event}
 use Rattle.rec_trace.specs.declared.tracer.Event.TheVariants as event
 use Rattle.rec_trace.specs.declared.tracer.Found.{Found}
 use Rattle.rec_trace.specs.declared.tracer.Found.TheVariants as found
-use Rattle.rec_trace.specs.declared.tracer.Step.{Step}
-use Rattle.rec_trace.specs.declared.tracer.Step.TheVariants as step
 use Rattle.rec_trace.specs.declared.tracer.Tracer.{Tracer}
 use Rattle.rec_trace.specs.declared.tracer.Turn.{Turn}
 use Rattle.rec_trace.specs.declared.tracer.Turn.TheVariants as turn
 
--- the moves of steps, the next one first, that give these values
-abbrev pub moves_of : Spec → List Step → List Tree → List Move
-moves_of y [] gs = []
-moves_of y (step.Give ∷ ss) [] = []
-moves_of y (step.Give ∷ ss) (g ∷ gs) = Give g ∷ moves_of y ss gs
-moves_of y (step.Invoke f k ∷ ss) gs = Invoke (name_of y (Symbol f)) k ∷ moves_of y ss gs
-
--- there are values enough for them, and each symbol has as many arguments as it takes
-abbrev pub AreSteps : Spec → List Step → List Tree → Type 0
-AreSteps y [] gs = Unit {0}
-AreSteps y (step.Give ∷ ss) [] = ⊥
-AreSteps y (step.Give ∷ ss) (g ∷ gs) = AreSteps y ss gs
-AreSteps y (step.Invoke f k ∷ ss) gs = (f < length (symbols y)) × (arity_of y f ≡ k)
-    × AreSteps y ss gs
-
--- the row of moves of a tracer, and its stack
+-- the moves of a tracer, and its stack
 abbrev pub moves_at : Spec → Store → Tracer → List Move
-moves_at y w t = moves_of y (reverse t.steps.items) (listed w t.lists.given)
+moves_at y w t = moves_in y w t.row
 
 abbrev pub stack_at : Store → Tracer → List Tree
-stack_at w t = listed w t.lists.stack
+stack_at w t = stack_in w t.row
 
--- the specification keeps its rules, the lists are kept, and the steps can be gone through
+-- the specification keeps its rules, the steps can be made, and values are saved in the list
 pub record IsInOrder (y : Spec) (w : Store) (t : Tracer) : Type 0 where
   pub good : fault y ≡ None
-  pub kept : AreKept w t.lists
-  pub steps : AreSteps y (reverse t.steps.items) (listed w t.lists.given)
+  pub row : IsRow y w t.row
+  pub saved : IsSaved w t.row t.saved
 
 -- and in the end they leave one value
 pub record Stands (y : Spec) (w : Store) (t : Tracer) : Type 0 where
@@ -121,11 +102,6 @@ IsLimit (turn.Fired rule redex contractum) = ⊥
 IsLimit (turn.Value t) = ⊥
 IsLimit turn.Limit = Unit {0}
 
--- a symbol on values, where it is called or only applied
-abbrev pub caller : Spec → Bool → Caller
-caller y true n u = Call y n u
-caller y false n u = Done u n
-
 -- a row of moves over values, one after the other: the value on top in the end
 abbrev pub result : Caller → ℕ → List Move → List Tree → Outcome Tree
 result c n [] [] = Over
@@ -139,27 +115,16 @@ pub record Adds (y : Spec) (w w' : Store) (old new : Tracer) (v : Tree) : Type 0
   pub order : IsInOrder y w' new
   pub moves : moves_at y w' new ≡ moves_at y w old
   pub stack : stack_at w' new ≡ v ∷ stack_at w old
+  pub steps : new.row.steps.items ≡ old.row.steps.items
+  pub long : length new.row.values.items ≡ suc (length old.row.values.items)
 
 -- the same state
 pub record IsSame (y : Spec) (w w' : Store) (old new : Tracer) : Type 0 where
   pub order : IsInOrder y w' new
   pub moves : moves_at y w' new ≡ moves_at y w old
   pub stack : stack_at w' new ≡ stack_at w old
-
--- the moves of names come first, where the rule of a number matches with these values
-pub record HasPushed (y : Spec) (w w' : Store) (old new : Tracer) (i : ℕ) (bind : List Reference)
-    (names : List Named) : Type 0 where
-  pub order : IsInOrder y w' new
-  pub stack : stack_at w' new ≡ stack_at w old
-  pub moves : (r : Rule) (s : Substitution) (u : Tree) → IsMatch y i u r s
-      → HasValues w old.lists.stack bind s
-      → moves_at y w' new ≡ map (move_of s) names ++ moves_at y w old
-
--- the moves of a term come first
-pub record HasMoves (y : Spec) (w w' : Store) (old new : Tracer) (ms : List Move) : Type 0 where
-  pub order : IsInOrder y w' new
-  pub stack : stack_at w' new ≡ stack_at w old
-  pub moves : moves_at y w' new ≡ ms ++ moves_at y w old
+  pub steps : new.row.steps.items ≡ old.row.steps.items
+  pub long : length new.row.values.items ≡ length old.row.values.items
 
 -- an outcome: its value comes on top; or it is over the limit
 abbrev pub Gives : Spec → Store → Store → Tracer → Tracer → Outcome Tree → Bool → Type 0

@@ -3,7 +3,8 @@
 
 pub mod laws;
 mod lines;
-mod lists;
+mod row;
+mod saved;
 mod sides;
 mod spots;
 mod tracer;

@@ -1,13 +1,13 @@
 //! The sides of rules, and the values of their variables.
 
-ghost use Rattle.std.specs.Prelude.{◌≡◌, ◌<◌, Some, Contains, length, slice_get, true};
+ghost use Rattle.std.specs.Prelude.{◌≡◌, ◌<◌, None, Some, Contains, length, slice_get, true};
 ghost use Rattle.rx_term.specs.Tree.{Tree};
 ghost use Rattle.rx_term.specs.Walks.{held_tree};
 ghost use Rattle.rec_syntax.specs.Syntax.{Rule, subterms};
 ghost use Rattle.rec_sorts.specs.Binding.{Substitution, value_of};
 ghost use Rattle.rec_sorts.specs.Lookup.{mentions, variable_words};
 ghost use Rattle.rec_sorts.specs.Numbering.{AreLetters, name_of};
-ghost use Rattle.rec_sorts.specs.SpecRules.{heads};
+ghost use Rattle.rec_sorts.specs.SpecRules.{fault, heads};
 ghost use Rattle.rec_sorts.specs.declared.letters.Meaning.TheVariants.{Variable};
 ghost use Rattle.rec_trace.specs.Inner.Sides.{HasSide, HasValues, IsMatch, IsRow, side_of};
 
@@ -26,8 +26,9 @@ pub(crate) enum Side {
 /// The letters of a side of a rule, where they stand.
 pub(crate) fn letters_of(checked: &Checked, rule: u32, side: Side) -> &[Letter]
     requires { (r : Rule) × (slice_get checked.now.spec.rules rule ≡ Some r) × HasSide r side }
-    ensures { (r : Rule) → slice_get checked.now.spec.rules rule ≡ Some r
+    ensures letters { (r : Rule) → slice_get checked.now.spec.rules rule ≡ Some r
         → IsRow checked.now.spec r result.now (side_of r side) }
+    ensures kept { fault checked.now.spec ≡ None }
 {
     let rules = checked.rules();
     let rule = &rules[rule as usize];
@@ -44,18 +45,18 @@ pub(crate) fn binding<B: TermBank>(
     engine: &Engine<B>,
     rule: u32,
     variable: u32,
-    stack: Term,
+    whole: Term,
     bind: &[Term],
 ) -> Term
     requires { (r : Rule) × (s : Substitution) × (u : Tree)
         × IsMatch engine.now.spec rule u r s
-        × HasValues (B.store engine.now.bank) stack bind.now s
+        × HasValues (B.store engine.now.bank) whole bind.now s
         × (variable < length (variable_words engine.now.spec.variables))
         × (mentions (heads (subterms r.left)) (name_of engine.now.spec (Variable variable))
         ≡ true) }
     ensures value { (r : Rule) (s : Substitution) (u : Tree)
         → IsMatch engine.now.spec rule u r s
-        → HasValues (B.store engine.now.bank) stack bind.now s
+        → HasValues (B.store engine.now.bank) whole bind.now s
         → value_of s (name_of engine.now.spec (Variable variable))
         ≡ Some (held_tree (B.store engine.now.bank) result) }
     ensures among { Contains bind.now result }

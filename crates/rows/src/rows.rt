@@ -6,6 +6,7 @@ mod counting;
 mod depth;
 mod engine;
 mod given;
+mod lent;
 mod links;
 mod matcher;
 mod memo;

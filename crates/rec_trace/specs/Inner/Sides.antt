@@ -3,8 +3,7 @@ use Rattle.std.specs.Prelude.{ℕ, ◌≡◌, ◌<◌, true, List, [], Some, Non
 use Rattle.std.specs.Prelude.{slice_get}
 use Rattle.rx_term.specs.Tree.{Tree}
 use Rattle.rx_term.specs.Store.{Store}
-use Rattle.rx_term.specs.Parts.{parts}
-use Rattle.rx_term.specs.Walks.{AllHeld, held_tree, held_trees}
+use Rattle.rx_term.specs.Walks.{AllHeld, held_trees}
 use Rattle.rx_term.specs.declared.Term.{Term as Reference}
 use Rattle.rec_syntax.specs.Syntax.{Term, Terms, Apply, Condition, Rule, Spec, subterms}
 use Rattle.rec_sorts.specs.Lookup.{is_variable, mentions}
@@ -16,6 +15,7 @@ use Rattle.rec_sorts.specs.declared.letters.Letter.{Letter}
 use Rattle.rec_sorts.specs.declared.letters.Meaning.TheVariants.{Symbol, Variable}
 use Rattle.rec_match.specs.Rows.{values_of}
 use Rattle.rec_trace.specs.States.{Move, Give, Invoke}
+use Rattle.rec_trace.specs.Rows.{IsPart}
 use Rattle.rec_trace.specs.declared.sides.Side.{Side}
 use Rattle.rec_trace.specs.declared.sides.Side.TheVariants.{Contractum, Left, Right}
 
@@ -42,13 +42,12 @@ pub record IsMatch (y : Spec) (i : ℕ) (u : Tree) (r : Rule) (s : Substitution)
   pub rule : slice_get y.rules i ≡ Some r
   pub binds : binds y r.left u ≡ Some s
 
--- references have these values, and are parts of what stands on a stack
-pub record HasValues (w : Store) (stack : Reference) (bind : List Reference) (s : Substitution)
+-- references have these values, and are parts of a tree
+pub record HasValues (w : Store) (whole : Reference) (bind : List Reference) (s : Substitution)
     : Type 0 where
   pub values : held_trees w bind ≡ values_of s
   pub held : AllHeld w bind
-  pub within : (t : Reference) → Contains bind t
-      → Contains (parts (held_tree w stack)) (held_tree w t)
+  pub within : (t : Reference) → Contains bind t → IsPart w whole t
 
 -- a letter that can stand in a rule: a symbol with as many arguments as it takes, or a variable of
 -- the left side
@@ -67,13 +66,3 @@ pub record IsRow (y : Spec) (r : Rule) (ls : List Letter) (t : Term) : Type 0 wh
 -- the move of a name: its value, where it has one, or a call
 abbrev pub move_of : Substitution → Named → Move
 move_of s m = elim (value_of s m.name) [ Some v ↦ Give v | None ↦ Invoke m.name m.arguments ]
-
--- a rule matches with these values, and this holds of it
-abbrev pub CanPush : Spec → Store → Reference → ℕ → List Reference → (Rule → Type 0) → Type 0
-CanPush y w stack i bind suits = (r : Rule) × (s : Substitution) × (u : Tree) × IsMatch y i u r s
-    × HasValues w stack bind s × suits r
-
--- the values are still there
-abbrev pub KeepsValues : Store → Store → Reference → List Reference → Type 0
-KeepsValues w w' stack bind = (s : Substitution) → HasValues w stack bind s
-    → HasValues w' stack bind s

@@ -1,5 +1,5 @@
 -- What each turn of a tracer needs, and what it does.
-use Rattle.std.specs.Prelude.{ℕ, ◌≡◌, ◌≤◌, ◌<◌, Bool, true, false, Contains, IsSome, List, [], ◌∷◌}
+use Rattle.std.specs.Prelude.{ℕ, ◌≡◌, ◌≤◌, ◌<◌, Bool, true, false, IsSome, List, [], ◌∷◌}
 use Rattle.std.specs.Prelude.{◌++◌, Option, Some, None, drop, length, map, reverse, take}
 use Rattle.std.specs.Option.{option_map}
 use Rattle.rx_term.specs.Tree.{Tree, none}
@@ -8,25 +8,25 @@ use Rattle.rx_term.specs.Walks.{held_tree}
 use Rattle.rx_term.specs.declared.Term.{Term as Reference}
 use Rattle.rec_syntax.specs.Syntax.{Rule, Spec}
 use Rattle.rec_sorts.specs.Binding.{NumberedMatch, Substitution, application}
-use Rattle.rec_sorts.specs.Evaluation.{Caller, Outcome, Done, Over, Match, Eval, first_rule}
+use Rattle.rec_sorts.specs.Evaluation.{Call, Caller, Outcome, Done, Over, Match, Eval, first_rule}
 use Rattle.rec_sorts.specs.Numbering.{named_by}
 use Rattle.rec_sorts.specs.declared.letters.Letter.{Letter}
 use Rattle.rec_engine.specs.Flat.{taken}
-use Rattle.rec_trace.specs.States.{Move, Give, Invoke, moves}
-use Rattle.rec_trace.specs.Lists.{Hold, listed}
+use Rattle.rec_trace.specs.States.{Fits, Move, Give, Invoke, moves}
 use Rattle.rec_trace.specs.Inner.Sides.{HasSide, HasValues, IsMatch, move_of}
-use Rattle.rec_trace.specs.Tracing.{AreSteps, IsInOrder, moves_at, moves_of, on_top, result}
-use Rattle.rec_trace.specs.Tracing.{stack_at}
+use Rattle.rec_trace.specs.Inner.Spreading.{top_of}
+use Rattle.rec_trace.specs.Rows.{AreGiven, AreSteps, IsClear, floor_of, moves_of}
+use Rattle.rec_trace.specs.Tracing.{IsInOrder, moves_at, on_top, result, stack_at}
+use Rattle.rec_trace.specs.declared.row.Step.{Step}
 use Rattle.rec_trace.specs.declared.sides.Side.{Side}
 use Rattle.rec_trace.specs.declared.tracer.Event.{Event}
 use Rattle.rec_trace.specs.declared.tracer.Event.TheVariants as event
-use Rattle.rec_trace.specs.declared.tracer.Step.{Step}
 use Rattle.rec_trace.specs.declared.tracer.Tracer.{Tracer}
 
--- a rule matches a tree that is a part of what stands on the stack, and has such a side
-abbrev pub CanTake : Spec → Store → Tracer → ℕ → Side → Reference → Type 0
-CanTake y w t i side redex = (r : Rule) × (s : Substitution) × IsMatch y i (held_tree w redex) r s
-    × HasSide r side × Contains (stack_at w t) (held_tree w redex) × IsSome (tree_at w redex)
+-- a rule matches a tree that is held, and has such a side
+abbrev pub CanTake : Spec → Store → ℕ → Side → Reference → Type 0
+CanTake y w i side redex = (r : Rule) × (s : Substitution) × IsMatch y i (held_tree w redex) r s
+    × HasSide r side × IsSome (tree_at w redex)
 
 -- there is a move, and values enough for it
 abbrev pub CanTurn : List Move → ℕ → Type 0
@@ -34,13 +34,14 @@ CanTurn [] d = ⊥
 CanTurn (Give v ∷ ms) d = Unit {0}
 CanTurn (Invoke name k ∷ ms) d = k ≤ d
 
--- a symbol is called on the values on top
-abbrev pub HasCalled : Caller → Store → Store → Tracer → Tracer → List ℕ → ℕ → Bool → Type 0
-HasCalled c w w' old new name k true = (v : Tree)
-    × (c old.left (application name (taken k (stack_at w old) none)) ≡ Done v new.left)
-    × Hold w' new.lists (listed w old.lists.given) (v ∷ drop k (stack_at w old))
-HasCalled c w w' old new name k false =
-    c old.left (application name (taken k (stack_at w old) none)) ≡ Over
+-- a symbol is called on the values on top, behind which steps are left
+abbrev pub HasCalled : Spec → Store → Store → Tracer → Tracer → List ℕ → ℕ → Bool → Type 0
+HasCalled y w w' old new name k true = (v : Tree)
+    × (Call y old.left (application name (taken k (stack_at w old) none)) ≡ Done v new.left)
+    × IsInOrder y w' new × (moves_at y w' new ≡ moves_at y w old)
+    × (stack_at w' new ≡ v ∷ drop k (stack_at w old))
+HasCalled y w w' old new name k false =
+    Call y old.left (application name (taken k (stack_at w old) none)) ≡ Over
 
 -- a move is made: so many moves and this stack are left
 abbrev pub Moves : Caller → ℕ → ℕ → List Move → List Tree → List Move → List Tree → Bool → Type 0
@@ -75,7 +76,7 @@ HasRun c y w w' old new k false = result c old.left (take k (moves_at y w old)) 
 -- a rule matches the tree on top, and has a condition of this number
 abbrev pub HasCondition : Spec → List Tree → ℕ → ℕ → Type 0
 HasCondition y st i j = (r : Rule) × (s : Substitution) × IsMatch y i (on_top st) r s
-    × (j < length r.conditions) × (0 < length st)
+    × (j < length r.conditions)
 
 -- the number of a rule that matches
 abbrev pub number_of : Option NumberedMatch → Option ℕ
@@ -84,7 +85,7 @@ number_of o = option_map (λ m. m.number) o
 -- where the rule of a number matches the tree on top, references have its values
 abbrev pub IsBound : Spec → Store → Tracer → ℕ → List Reference → Type 0
 IsBound y w t i bind = (r : Rule) (s : Substitution) → IsMatch y i (on_top (stack_at w t)) r s
-    → HasValues w t.lists.stack bind s
+    → HasValues w (top_of t.row) bind s
 
 -- a rule fires at the tree on top: the moves of its right side come first, and the tree goes
 pub record HasFired (y : Spec) (w w' : Store) (old new : Tracer) (r : Rule) (s : Substitution)
@@ -115,5 +116,10 @@ ComesTo y w w' old new name k event =
 
 -- steps are the calls of a ground term's letters
 pub record IsGroundRow (y : Spec) (steps : List Step) (ls : List Letter) : Type 0 where
-  pub can : AreSteps y (reverse steps) []
-  pub moves_are : moves_of y (reverse steps) [] ≡ map (move_of []) (map (named_by y) ls)
+  pub steps_are : AreSteps y (reverse steps)
+  pub given : (w : Store) (vs : List Reference) → AreGiven w (reverse steps) vs
+  pub floor : floor_of (reverse steps) ≡ 0
+  pub clear : (n : ℕ) → Fits (map (move_of []) (map (named_by y) ls)) n 1
+      → IsClear (reverse steps) n
+  pub moves_are : (w : Store) → moves_of y w (reverse steps)
+      ≡ map (move_of []) (map (named_by y) ls)

@@ -8,8 +8,9 @@ ghost use Rattle.rec_engine.specs.Engine.{SameEngine, Spells};
 ghost use Rattle.rec_trace.specs.Tracing.{Stands, rest_of, whole_of};
 ghost use Rattle.rec_trace.specs.Trace.{Trace};
 
-use crate::lists::Lists;
-use crate::tracer::{Tracer, ground_steps};
+use crate::row::{Row, ground_steps};
+use crate::saved::Saved;
+use crate::tracer::Tracer;
 use rec_engine::{Engine, EngineFault};
 use rec_sorts::Letter;
 use rx_term::TermBank;
@@ -35,12 +36,8 @@ impl Tracer {
     {
         let letters = &engine.checked().terms()[i as usize];
         let steps = ground_steps(alloc, letters)?;
-        let lists = Lists::empty(engine)?;
-        Ok(Tracer {
-            steps,
-            lists,
-            left: n,
-        })
+        let saved = Saved::none(engine)?;
+        Ok(Tracer::new(alloc, Row::of_steps(alloc, steps), saved, n))
     }
 
     /// The trace of some numbered words begins, within `n` steps: `check_terms` and `term_letters`
@@ -62,11 +59,7 @@ impl Tracer {
     {
         let _kept = engine.checked().syntax();
         let steps = ground_steps(alloc, letters)?;
-        let lists = Lists::empty(engine)?;
-        Ok(Tracer {
-            steps,
-            lists,
-            left: n,
-        })
+        let saved = Saved::none(engine)?;
+        Ok(Tracer::new(alloc, Row::of_steps(alloc, steps), saved, n))
     }
 }

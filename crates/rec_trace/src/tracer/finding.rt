@@ -1,45 +1,42 @@
 //! Which rule fires: rules that match, and their conditions.
 
-ghost use Rattle.std.specs.Prelude.{◌≡◌, ◌<◌, ◌∷◌, ◌+◌, [], ℕ, true};
-ghost use Rattle.std.specs.Prelude.{IfOk, OnOk};
-ghost use Rattle.std.specs.Prelude.{Some, drop, get_or, length, slice_get};
+ghost use Rattle.std.specs.Prelude.{◌≡◌, ◌<◌, ◌∷◌, ◌+◌, [], ℕ, true, IfOk, Some, drop, get_or};
+ghost use Rattle.std.specs.Prelude.{◌-◌, length, reverse, slice_get};
 ghost use Rattle.std.specs.Bool.{beq};
 ghost use Rattle.rx_term.specs.Tree.{list_of, none, tree_eq};
 ghost use Rattle.rec_syntax.specs.Syntax.{Rule};
 ghost use Rattle.rec_sorts.specs.Binding.{Substitution, next_match};
 ghost use Rattle.rec_sorts.specs.Evaluation.{Eval, Holds, first_rule};
 ghost use Rattle.rec_engine.specs.Engine.{SameEngine};
-ghost use Rattle.rec_trace.specs.Lists.{Hold, Stays, listed};
+ghost use Rattle.rec_trace.specs.Lists.{Stays};
+ghost use Rattle.rec_trace.specs.Rows.{IsClear, reach_of};
 ghost use Rattle.rec_trace.specs.Inner.Sides.{IsMatch, no_condition};
-ghost use Rattle.rec_trace.specs.Tracing.{AreAnswered, IsFound};
-ghost use Rattle.rec_trace.specs.Tracing.{IsInOrder};
-ghost use Rattle.rec_trace.specs.Tracing.{on_top, stack_at};
 ghost use Rattle.rec_trace.specs.Inner.Turns.{HasCondition, IsBound, number_of};
+ghost use Rattle.rec_trace.specs.Tracing.{AreAnswered, IsFound, IsInOrder, moves_at, on_top};
+ghost use Rattle.rec_trace.specs.Tracing.{stack_at};
 ghost use Rattle.rec_trace.specs.declared.tracer.Found.TheVariants as found;
 
 use crate::sides::Side;
-use crate::tracer::{Found, Tracer, second};
+use crate::tracer::{Found, Tracer};
 use rec_engine::{Engine, EngineFault};
-use rx_term::{Term, TermBank};
-use smallvec::SmallVec;
-use std::alloc::Global;
+use rx_term::TermBank;
 
 impl Tracer {
     /// Whether a condition of a rule that matches the tree on top holds; none, where more steps
     /// are needed than are left.
     fn condition<B: TermBank>(
         &mut self,
-        alloc: Global,
         engine: &mut Engine<B>,
         rule: u32,
         i: usize,
     ) -> Result<Option<bool>, EngineFault>
         requires order { IsInOrder engine.old.spec (B.store engine.old.bank) self.old }
+        requires some { 0 < reach_of self.old.row }
         requires can { HasCondition engine.old.spec (stack_at (B.store engine.old.bank) self.old)
             rule i }
         ensures same { SameEngine engine.old engine.new }
-        ensures stays { Stays (B.store engine.old.bank) (B.store engine.new.bank) self.old.lists
-            self.new.lists }
+        ensures stays { Stays (B.store engine.old.bank) (B.store engine.new.bank)
+            self.old.saved.list self.new.saved.list }
         ensures answers { IfOk result (λ answer. (r : Rule) (s : Substitution)
             → IsMatch engine.old.spec rule
             (on_top (stack_at (B.store engine.old.bank) self.old)) r s
@@ -47,67 +44,62 @@ impl Tracer {
             self.old self.new (Holds engine.old.spec self.old.left s
             (get_or r.conditions i no_condition ∷ [])) answer) }
     {
-        let redex = engine.bank().head(self.lists.stack);
-        if !self.side(alloc, engine, rule, Side::Left(i), redex, true)? {
+        let redex = self.row.top();
+        if !self.side(engine, rule, Side::Left(i), redex)? {
             return Ok(None);
         }
-        let redex = second(engine.bank(), self.lists.stack);
-        if !self.side(alloc, engine, rule, Side::Right(i), redex, true)? {
+        let redex = self.row.values[self.row.values.len() - 2];
+        if !self.side(engine, rule, Side::Right(i), redex)? {
             return Ok(None);
         }
-        self.compare(engine, rule, i)
+        Ok(Some(self.compare(engine, rule, i)))
     }
 
-    /// The two values on top are compared as a condition of a rule wants it, and go.
-    fn compare<B: TermBank>(
-        &mut self,
-        engine: &mut Engine<B>,
-        rule: u32,
-        i: usize,
-    ) -> Result<Option<bool>, EngineFault>
-        requires order { IsInOrder engine.old.spec (B.store engine.old.bank) self.old }
-        requires two { 1 < length (stack_at (B.store engine.old.bank) self.old) }
-        requires can { (r : Rule) × (slice_get engine.old.spec.rules rule ≡ Some r)
+    /// Whether the two values on top are as a condition of a rule wants them; they go.
+    fn compare<B: TermBank>(&mut self, engine: &Engine<B>, rule: u32, i: usize) -> bool
+        requires order { IsInOrder engine.now.spec (B.store engine.now.bank) self.old }
+        requires two { 1 < reach_of self.old.row }
+        requires clear { IsClear (reverse self.old.row.steps.items)
+            (length self.old.row.values.items - 2) }
+        requires can { (r : Rule) × (slice_get engine.now.spec.rules rule ≡ Some r)
             × (i < length r.conditions) }
-        ensures same { SameEngine engine.old engine.new }
-        ensures stays { Stays (B.store engine.old.bank) (B.store engine.new.bank) self.old.lists
-            self.new.lists }
         ensures left { self.new.left ≡ self.old.left }
-        ensures steps { self.new.steps ≡ self.old.steps }
-        ensures held { OnOk result (Hold (B.store engine.new.bank) self.new.lists
-            (listed (B.store engine.old.bank) self.old.lists.given)
-            (drop 2 (stack_at (B.store engine.old.bank) self.old))) }
-        ensures answer { IfOk result (λ answer. (r : Rule)
-            → slice_get engine.old.spec.rules rule ≡ Some r
-            → answer ≡ Some (beq (tree_eq
-            (get_or (stack_at (B.store engine.old.bank) self.old) 1 (list_of none))
-            (get_or (stack_at (B.store engine.old.bank) self.old) 0 (list_of none)))
-            (get_or r.conditions i no_condition).equal)) }
+        ensures saved { self.new.saved ≡ self.old.saved }
+        ensures order { IsInOrder engine.now.spec (B.store engine.now.bank) self.new }
+        ensures moves { moves_at engine.now.spec (B.store engine.now.bank) self.new
+            ≡ moves_at engine.now.spec (B.store engine.now.bank) self.old }
+        ensures stack { stack_at (B.store engine.now.bank) self.new
+            ≡ drop 2 (stack_at (B.store engine.now.bank) self.old) }
+        ensures steps { self.new.row.steps ≡ self.old.row.steps }
+        ensures long { length self.new.row.values.items + 2
+            ≡ length self.old.row.values.items }
+        ensures answer { (r : Rule) → slice_get engine.now.spec.rules rule ≡ Some r
+            → result ≡ beq (tree_eq
+            (get_or (stack_at (B.store engine.now.bank) self.old) 1 (list_of none))
+            (get_or (stack_at (B.store engine.now.bank) self.old) 0 (list_of none)))
+            (get_or r.conditions i no_condition).equal }
     {
         let equal = engine.checked().rules()[rule as usize].conditions[i].equal;
-        let right = engine.bank().head(self.lists.stack);
-        let rest = engine.bank().tail(self.lists.stack);
-        let left = engine.bank().head(rest);
-        let below = engine.bank().tail(rest);
-        self.lists.cut(engine, below)?;
-        Ok(Some((left.0 == right.0) == equal))
+        let at = self.row.values.len() - 2;
+        let same = self.row.values[at].0 == self.row.values[at + 1].0;
+        self.row.cut(at);
+        same == equal
     }
 
     /// Whether the conditions of a rule that matches the tree on top hold; none, where more steps
     /// are needed than are left.
     fn conditions<B: TermBank>(
         &mut self,
-        alloc: Global,
         engine: &mut Engine<B>,
         rule: u32,
     ) -> Result<Option<bool>, EngineFault>
         requires order { IsInOrder engine.old.spec (B.store engine.old.bank) self.old }
+        requires some { 0 < reach_of self.old.row }
         requires can { (r : Rule) × (s : Substitution) × IsMatch engine.old.spec rule
-            (on_top (stack_at (B.store engine.old.bank) self.old)) r s
-            × (0 < length (stack_at (B.store engine.old.bank) self.old)) }
+            (on_top (stack_at (B.store engine.old.bank) self.old)) r s }
         ensures same { SameEngine engine.old engine.new }
-        ensures stays { Stays (B.store engine.old.bank) (B.store engine.new.bank) self.old.lists
-            self.new.lists }
+        ensures stays { Stays (B.store engine.old.bank) (B.store engine.new.bank)
+            self.old.saved.list self.new.saved.list }
         ensures answers { IfOk result (λ answer. (r : Rule) (s : Substitution)
             → IsMatch engine.old.spec rule
             (on_top (stack_at (B.store engine.old.bank) self.old)) r s
@@ -116,7 +108,7 @@ impl Tracer {
     {
         let count = engine.checked().rules()[rule as usize].conditions.len();
         for i in 0..count {
-            match self.condition(alloc, engine, rule, i)? {
+            match self.condition(engine, rule, i)? {
                 Some(true) => {}
                 Some(false) => return Ok(Some(false)),
                 None => return Ok(None),
@@ -129,35 +121,33 @@ impl Tracer {
     /// where more steps are needed than are left. Where they hold, these are its values still.
     fn try_rule<B: TermBank>(
         &mut self,
-        alloc: Global,
         engine: &mut Engine<B>,
         rule: u32,
-        bind: &mut SmallVec<Term, 8>,
     ) -> Result<Option<bool>, EngineFault>
         requires order { IsInOrder engine.old.spec (B.store engine.old.bank) self.old }
+        requires some { 0 < reach_of self.old.row }
         requires can { (r : Rule) × (s : Substitution) × IsMatch engine.old.spec rule
-            (on_top (stack_at (B.store engine.old.bank) self.old)) r s
-            × (0 < length (stack_at (B.store engine.old.bank) self.old)) }
+            (on_top (stack_at (B.store engine.old.bank) self.old)) r s }
         requires bound { IsBound engine.old.spec (B.store engine.old.bank) self.old rule
-            bind.old.items }
+            self.old.bind.items }
         ensures same { SameEngine engine.old engine.new }
-        ensures stays { Stays (B.store engine.old.bank) (B.store engine.new.bank) self.old.lists
-            self.new.lists }
+        ensures stays { Stays (B.store engine.old.bank) (B.store engine.new.bank)
+            self.old.saved.list self.new.saved.list }
         ensures answers { IfOk result (λ answer. (r : Rule) (s : Substitution)
             → IsMatch engine.old.spec rule
             (on_top (stack_at (B.store engine.old.bank) self.old)) r s
             → AreAnswered engine.old.spec (B.store engine.old.bank) (B.store engine.new.bank)
             self.old self.new (Holds engine.old.spec self.old.left s r.conditions) answer) }
         ensures bound { IfOk result (λ answer. answer ≡ Some true
-            → IsBound engine.old.spec (B.store engine.new.bank) self.new rule bind.new.items) }
+            → IsBound engine.old.spec (B.store engine.new.bank) self.new rule self.new.bind.items) }
     {
         if engine.checked().rules()[rule as usize].conditions.len() == 0 {
             return Ok(Some(true));
         }
-        match self.conditions(alloc, engine, rule)? {
+        match self.conditions(engine, rule)? {
             // what was evaluated may have given back the values: they are asked for once more
             Some(true) => {
-                let _same = self.next_rule(engine, rule, bind)?;
+                let _same = self.next_rule(engine, rule)?;
                 Ok(Some(true))
             }
             Some(false) => Ok(Some(false)),
@@ -165,53 +155,53 @@ impl Tracer {
         }
     }
 
-    /// The first rule at or after a number that matches the tree on top, and its values.
-    fn next_rule<B: TermBank>(
-        &self,
+    /// The first rule at or after a number that matches the tree on top; its values are found.
+    pub(super) fn next_rule<B: TermBank>(
+        &mut self,
         engine: &Engine<B>,
         from: u32,
-        bind: &mut SmallVec<Term, 8>,
     ) -> Result<Option<u32>, EngineFault>
-        requires order { IsInOrder engine.now.spec (B.store engine.now.bank) self.now }
-        requires some { 0 < length (stack_at (B.store engine.now.bank) self.now) }
+        requires order { IsInOrder engine.now.spec (B.store engine.now.bank) self.old }
+        requires some { 0 < reach_of self.old.row }
+        ensures row { self.new.row ≡ self.old.row }
+        ensures saved { self.new.saved ≡ self.old.saved }
+        ensures left { self.new.left ≡ self.old.left }
         ensures found { IfOk result (λ found. number_of (next_match engine.now.spec from
-            (on_top (stack_at (B.store engine.now.bank) self.now))) ≡ found) }
+            (on_top (stack_at (B.store engine.now.bank) self.old))) ≡ found) }
         ensures bound { IfOk result (λ found. (i : ℕ) → found ≡ Some i
-            → IsBound engine.now.spec (B.store engine.now.bank) self.now i bind.new.items) }
+            → IsBound engine.now.spec (B.store engine.now.bank) self.new i self.new.bind.items) }
     {
-        let redex = engine.bank().head(self.lists.stack);
-        match engine.matcher().next(engine.bank(), redex, from, bind) {
-            Ok(found) => Ok(found),
+        let redex = self.row.top();
+        let found = engine
+            .matcher()
+            .next_on(engine.bank(), redex, from, &mut self.work, &mut self.bind);
+        match found {
+            Ok(rule) => Ok(rule),
             Err(_) => Err(EngineFault::Memory),
         }
     }
 
     /// The rule that fires at the tree on top, and its values.
-    pub(super) fn find<B: TermBank>(
-        &mut self,
-        alloc: Global,
-        engine: &mut Engine<B>,
-        bind: &mut SmallVec<Term, 8>,
-    ) -> Result<Found, EngineFault>
+    pub(super) fn find<B: TermBank>(&mut self, engine: &mut Engine<B>) -> Result<Found, EngineFault>
         requires order { IsInOrder engine.old.spec (B.store engine.old.bank) self.old }
-        requires some { 0 < length (stack_at (B.store engine.old.bank) self.old) }
+        requires some { 0 < reach_of self.old.row }
         ensures same { SameEngine engine.old engine.new }
-        ensures stays { Stays (B.store engine.old.bank) (B.store engine.new.bank) self.old.lists
-            self.new.lists }
+        ensures stays { Stays (B.store engine.old.bank) (B.store engine.new.bank)
+            self.old.saved.list self.new.saved.list }
         ensures found { IfOk result (IsFound engine.old.spec (B.store engine.old.bank)
             (B.store engine.new.bank) self.old self.new
             (first_rule engine.old.spec (Eval engine.old.spec) engine.old.spec.rules self.old.left
             (on_top (stack_at (B.store engine.old.bank) self.old)))) }
         ensures bound { IfOk result (λ f. (i : ℕ) → f ≡ found.Rule i
-            → IsBound engine.old.spec (B.store engine.new.bank) self.new i bind.new.items) }
+            → IsBound engine.old.spec (B.store engine.new.bank) self.new i self.new.bind.items) }
     {
         let mut from = 0;
-        'rules: while let Some(rule) = self.next_rule(engine, from, bind)? {
+        'rules: while let Some(rule) = self.next_rule(engine, from)? {
             if self.left == 0 {
                 return Ok(Found::Limit);
             }
             self.left -= 1;
-            match self.try_rule(alloc, engine, rule, bind)? {
+            match self.try_rule(engine, rule)? {
                 Some(true) => return Ok(Found::Rule(rule)),
                 Some(false) => from = self.after(engine, rule),
                 None => return Ok(Found::Limit),

@@ -97,7 +97,7 @@ fn event_of<B: TermBank>(
     ensures event { IsEvent engine.old.spec (B.store engine.old.bank) (B.store engine.new.bank)
         tracer.old tracer.new result }
 {
-    let event = tracer.next_event(alloc, engine).expect(rt, "an event");
+    let event = tracer.next_event(engine).expect(rt, "an event");
     assert!(rt; !matches!(event, Event::Limit));
     event
 }
@@ -148,12 +148,12 @@ fn expect_whole_term<B: TermBank>(
     rt: &impl Abort,
     alloc: Global,
     engine: &mut Engine<B>,
-    tracer: &Tracer,
+    tracer: &mut Tracer,
     wanted: &[u8],
 )
-    requires { Stands engine.old.spec (B.store engine.old.bank) tracer.now }
+    requires { Stands engine.old.spec (B.store engine.old.bank) tracer.old }
     ensures same { SameEngine engine.old engine.new }
-    ensures stands { Stands engine.old.spec (B.store engine.new.bank) tracer.now }
+    ensures stands { Stands engine.old.spec (B.store engine.new.bank) tracer.new }
 {
     let whole = tracer.whole(alloc, engine).expect(rt, "the whole term");
     expect_text(rt, alloc, engine.bank(), whole, wanted);
@@ -196,11 +196,11 @@ fn trace_sum<B: TermBank>(rt: &impl Abort, alloc: Global, engine: &mut Engine<B>
 fn trace_whole<B: TermBank>(rt: &impl Abort, alloc: Global, engine: &mut Engine<B>) {
     assert!(rt; engine.eval_terms() == 2);
     let mut tracer = Tracer::of_eval(alloc, engine, 0, 5).expect(rt, "a trace");
-    expect_whole_term(rt, alloc, engine, &tracer, b"add(s(z),s(z))");
+    expect_whole_term(rt, alloc, engine, &mut tracer, b"add(s(z),s(z))");
     expect_fired(rt, alloc, engine, &mut tracer, &FIRST);
-    expect_whole_term(rt, alloc, engine, &tracer, b"s(add(z,s(z)))");
+    expect_whole_term(rt, alloc, engine, &mut tracer, b"s(add(z,s(z)))");
     expect_fired(rt, alloc, engine, &mut tracer, &SECOND);
-    expect_whole_term(rt, alloc, engine, &tracer, b"s(s(z))");
+    expect_whole_term(rt, alloc, engine, &mut tracer, b"s(s(z))");
     expect_value(rt, alloc, engine, &mut tracer, b"s(s(z))");
 }
 
@@ -246,7 +246,7 @@ fn trace_nothing<B: TermBank>(rt: &impl Abort, alloc: Global, engine: &mut Engin
     let turn = tracer.next_step(alloc, engine).expect(rt, "a step");
     assert!(rt; matches!(turn, Turn::Limit));
     let mut tracer = Tracer::of_eval(alloc, engine, 0, 0).expect(rt, "a trace");
-    let event = tracer.next_event(alloc, engine).expect(rt, "an event");
+    let event = tracer.next_event(engine).expect(rt, "an event");
     assert!(rt; matches!(event, Event::Limit));
 }
 

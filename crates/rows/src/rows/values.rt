@@ -6,6 +6,7 @@ ghost use Rattle.rx_term.specs.Store.{tree_at};
 use crate::rows::banks::expect_text;
 use crate::rows::cases::{Bank, Case, OPTIONS, Question, expect_case};
 use crate::rows::engine::{ADD, TWENTY, is_room, outcome_of, value_of};
+use crate::rows::lent::makes_values_on;
 use rec_engine::{Engine, Outcome};
 use rx_term::{Term, TermBank};
 use smallvec::SmallVec;
@@ -160,6 +161,7 @@ fn keeps_protected<B: TermBank>(rt: &impl Abort, alloc: Global, engine: &mut Eng
 #[derive(Drop)]
 pub enum Values {
     Make,
+    MakeOn,
     Call,
     TellRules,
     Protect,
@@ -197,6 +199,7 @@ const PROTECTED: Case = Case {
 pub fn ask<B: TermBank>(rt: &impl Abort, alloc: Global, engine: &mut Engine<B>, values: &Values) {
     match values {
         Values::Make => makes_values(rt, alloc, engine),
+        Values::MakeOn => makes_values_on(rt, alloc, engine),
         Values::Call => calls_values(rt, alloc, engine),
         Values::TellRules => tells_rules(rt, alloc, engine),
         Values::Protect => keeps_protected(rt, alloc, engine),

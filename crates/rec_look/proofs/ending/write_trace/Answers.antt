@@ -15,8 +15,8 @@ pub write_first-requires-clause-stands : goal.write_first-requires-clause-stands
 write_first-requires-clause-stands g c = c.requires.begins.1.stands
 
 pub write_rest-requires-clause-stands : goal.write_rest-requires-clause-stands
-write_rest-requires-clause-stands g c = subst (λ (z : Spec). Stands z (g.B.TermBank.store c.write_first.new.engine.bank) c.args.tracer)
-    (sym c.write_first.ensures.same.spec) c.write_first.ensures.stands
+write_rest-requires-clause-stands g c = subst (λ (z : Spec). Stands z (g.B.TermBank.store c.write_first.new.engine.bank) c.write_first.new.tracer)
+    (sym c.write_first.ensures.same.spec) c.in_ok-write_first.ensures.stands
 
 pub write_rest-requires-clause-within : goal.write_rest-requires-clause-within
 write_rest-requires-clause-within g c =
@@ -24,8 +24,8 @@ write_rest-requires-clause-within g c =
     let w = g.B.TermBank.store c.args.engine.now.bank in
     let n = c.args.telling.now.options.run.steps in
     let first = begun-within y w n c.args.tracer c.requires.begins.0 c.requires.begins.1 in
-    subst (λ (z : Spec). IsWithin n (rest_of z (g.B.TermBank.store c.write_first.new.engine.bank) c.args.tracer))
-    (sym c.write_first.ensures.same.spec) (subst (IsWithin n) (sym c.write_first.ensures.rest) first)
+    subst (λ (z : Spec). IsWithin n (rest_of z (g.B.TermBank.store c.write_first.new.engine.bank) c.write_first.new.tracer))
+    (sym c.write_first.ensures.same.spec) (subst (IsWithin n) (sym c.in_ok-write_first.ensures.rest) first)
 
 pub write_rest-requires-clause-telling : goal.write_rest-requires-clause-telling
 write_rest-requires-clause-telling g c = (
@@ -55,12 +55,12 @@ returns-in_err-write_rest-clause-err g c =
     let out2 = c.write_rest.new.out in
     let lines1 = c.write_first.new.lines in
     let broken = subst (λ (z : Spec). (source : List ℕ) → IsTelling source z telling
-    → Breaks g.W.Write.contents out1 out2 lines1 (told source shown n c.args.notes.now (rest_of z w1 c.args.tracer)) fault)
+    → Breaks g.W.Write.contents out1 out2 lines1 (told source shown n c.args.notes.now (rest_of z w1 c.write_first.new.tracer)) fault)
     c.write_first.ensures.same.spec c.in_err-write_rest.ensures.err in
     if_err_at c.from_residual-in_err-write_rest.result _ fault c.from_residual-in_err-write_rest.ensures.1
     (λ source task is begun notes. task-breaks-rest g.W.Write.contents source y shown n task w c.args.tracer c.args.notes.now begun notes
     c.args.out.now out1 out2 c.args.lines.now lines1 fault c.in_ok-write_first.ensures.ok
-    (subst (λ (r : Traced Tree). Breaks g.W.Write.contents out1 out2 lines1 (told source shown n c.args.notes.now r) fault) c.write_first.ensures.rest
+    (subst (λ (r : Traced Tree). Breaks g.W.Write.contents out1 out2 lines1 (told source shown n c.args.notes.now r) fault) c.in_ok-write_first.ensures.rest
     (broken source is)))
 
 pub returns-clause-ok : goal.returns-clause-ok
@@ -76,9 +76,9 @@ returns-clause-ok g c =
     let lines1 = c.write_first.new.lines in
     let lines2 = c.write_rest.new.lines in
     let printed = subst (λ (z : Spec). (source : List ℕ) → IsTelling source z telling
-    → Prints g.W.Write.contents out1 out2 lines1 lines2 (told source shown n c.args.notes.now (rest_of z w1 c.args.tracer)))
+    → Prints g.W.Write.contents out1 out2 lines1 lines2 (told source shown n c.args.notes.now (rest_of z w1 c.write_first.new.tracer)))
     c.write_first.ensures.same.spec c.in_ok-write_rest.ensures.ok in
     λ source task is begun notes. task-prints g.W.Write.contents source y shown n task w c.args.tracer c.args.notes.now begun notes c.args.out.now
     out1 out2 c.args.lines.now lines1 lines2 c.in_ok-write_first.ensures.ok
     (subst (λ (r : Traced Tree). Prints g.W.Write.contents out1 out2 lines1 lines2 (told source shown n c.args.notes.now r))
-    c.write_first.ensures.rest (printed source is))
+    c.in_ok-write_first.ensures.rest (printed source is))

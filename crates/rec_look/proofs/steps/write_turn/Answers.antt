@@ -91,8 +91,8 @@ returns-in_ok-write_fired-in-Ok-Fired-clause-turn g c =
     (event-fired c.args.engine.now.spec w w' old new c.in-Ok-Fired.field-0 c.in-Ok-Fired.rule c.in-Ok-Fired.redex
     c.in-Ok-Fired.field-0-is c.in-Ok-Fired.ensures.event) in
     let told = told-turn g.W.Write.contents c.next_event.new.engine.spec w w' old new telling c.args.kept.now c.in-Ok-Fired.rule c.in-Ok-Fired.redex
-    f w2 c.write_fired.new.kept c.args.out.now c.write_fired.new.out c.args.lines.now c.write_fired.new.lines
-    c.write_fired.ensures.rest c.write_fired.ensures.stands
+    f w2 c.write_fired.new.tracer c.write_fired.new.kept c.args.out.now c.write_fired.new.out c.args.lines.now c.write_fired.new.lines
+    c.in_ok-write_fired-in-Ok-Fired.ensures.rest c.in_ok-write_fired-in-Ok-Fired.ensures.stands
     (λ source before is kept. c.in_ok-write_fired-in-Ok-Fired.ensures.ok source w old before is kept f) in
-    subst (λ (z : Spec). HasTold g.W.Write.contents z w w2 old new telling c.args.kept.now c.write_fired.new.kept c.args.out.now c.write_fired.new.out
-    c.args.lines.now c.write_fired.new.lines) same told
+    subst (λ (z : Spec). HasTold g.W.Write.contents z w w2 old c.write_fired.new.tracer telling c.args.kept.now c.write_fired.new.kept c.args.out.now
+    c.write_fired.new.out c.args.lines.now c.write_fired.new.lines) same told

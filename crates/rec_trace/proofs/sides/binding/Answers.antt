@@ -8,7 +8,7 @@ pub bounds-bind-i : goal.bounds-bind-i
 bounds-bind-i g c =
     let q = c.requires in
     let m = c.matcher.result.now in
-    let f = match-facts c.args.engine.now.spec (g.B.TermBank.store c.args.engine.now.bank) m c.args.stack c.args.rule q.2 q.0 q.1 c.args.bind.now
+    let f = match-facts c.args.engine.now.spec (g.B.TermBank.store c.args.engine.now.bank) m c.args.whole c.args.rule q.2 q.0 q.1 c.args.bind.now
     c.matcher.ensures q.3 q.4 in
     let long = ap (λ (vs : List ℕ). length vs) (variables-are m c.args.rule c.index.result.now f.within c.index.ensures ∙ sym c.deref-v-items.ensures.value) in
     let counted = f.pairs.counted in
@@ -18,7 +18,7 @@ bounds-bind-i g c =
 pub returns-then-v-variable-clause-value : goal.returns-then-v-variable-clause-value
 returns-then-v-variable-clause-value g c = λ r s u match values.
     let m = c.matcher.result.now in
-    let f = match-facts c.args.engine.now.spec (g.B.TermBank.store c.args.engine.now.bank) m c.args.stack c.args.rule u r s c.args.bind.now
+    let f = match-facts c.args.engine.now.spec (g.B.TermBank.store c.args.engine.now.bank) m c.args.whole c.args.rule u r s c.args.bind.now
     c.matcher.ensures match values in
     let vs = variables-are m c.args.rule c.index.result.now f.within c.index.ensures ∙ sym c.deref-v-items.ensures.value in
     let long = ap (λ (vs : List ℕ). length vs) vs in
@@ -32,7 +32,7 @@ pub returns-then-v-variable-clause-among : goal.returns-then-v-variable-clause-a
 returns-then-v-variable-clause-among g c =
     let q = c.requires in
     let m = c.matcher.result.now in
-    let f = match-facts c.args.engine.now.spec (g.B.TermBank.store c.args.engine.now.bank) m c.args.stack c.args.rule q.2 q.0 q.1 c.args.bind.now
+    let f = match-facts c.args.engine.now.spec (g.B.TermBank.store c.args.engine.now.bank) m c.args.whole c.args.rule q.2 q.0 q.1 c.args.bind.now
     c.matcher.ensures q.3 q.4 in
     let long = ap (λ (vs : List ℕ). length vs) (variables-are m c.args.rule c.index.result.now f.within c.index.ensures ∙ sym c.deref-v-items.ensures.value) in
     let counted = f.pairs.counted in
@@ -43,7 +43,7 @@ pub unreachable-requires : goal.unreachable-requires
 unreachable-requires g c =
     let q = c.requires in
     let m = c.matcher.result.now in
-    let f = match-facts c.args.engine.now.spec (g.B.TermBank.store c.args.engine.now.bank) m c.args.stack c.args.rule q.2 q.0 q.1 c.args.bind.now
+    let f = match-facts c.args.engine.now.spec (g.B.TermBank.store c.args.engine.now.bank) m c.args.whole c.args.rule q.2 q.0 q.1 c.args.bind.now
     c.matcher.ensures q.3 q.4 in
     let vs = variables-are m c.args.rule c.index.result.now f.within c.index.ensures ∙ sym c.deref-v-items.ensures.value in
     met-there c.deref-v-items.result.now c.args.variable c.loop-i.i

@@ -32,16 +32,16 @@ index-requires-in-Right c =
     let v = x.conditions.ok.0 in
     omega (arith, lt, counted, v)
 
-pub returns-in-Contractum : goal.returns-in-Contractum
-returns-in-Contractum c = λ r q.
+pub returns-in-Contractum-clause-letters : goal.returns-in-Contractum-clause-letters
+returns-in-Contractum-clause-letters c = λ r q.
     let y = c.args.checked.now.spec in
     let x = c.index-rules-rule.result in
     let read = rule-read y c.rules-rules.ensures.kept c.rules-rules.result.now c.rules-rules.ensures.letters c.args.rule r x q c.index-rules-rule.is in
     subst (λ ls. IsRow y r ls (side_of r c.args.side)) (sym c.deref.ensures.value)
     (subst (λ side. IsRow y r x.right.items (side_of r side)) (sym c.in-Contractum.is) read.right)
 
-pub returns-in-Left : goal.returns-in-Left
-returns-in-Left c = λ r q.
+pub returns-in-Left-clause-letters : goal.returns-in-Left-clause-letters
+returns-in-Left-clause-letters c = λ r q.
     let y = c.args.checked.now.spec in
     let x = c.index-rules-rule.result in
     let i = c.in-Left.i in
@@ -52,8 +52,8 @@ returns-in-Left c = λ r q.
     (subst (λ side. IsRow y r (get_or x.conditions.items i c.index.result.now).left.items (side_of r side)) (sym c.in-Left.is)
     (read.lefts i c.index.result.now lt))
 
-pub returns-in-Right : goal.returns-in-Right
-returns-in-Right c = λ r q.
+pub returns-in-Right-clause-letters : goal.returns-in-Right-clause-letters
+returns-in-Right-clause-letters c = λ r q.
     let y = c.args.checked.now.spec in
     let x = c.index-rules-rule.result in
     let i = c.in-Right.i in

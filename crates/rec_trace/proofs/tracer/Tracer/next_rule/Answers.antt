@@ -1,8 +1,7 @@
-use Rattle.std.proofs.Common.{◌≡◌, subst, ◌∙◌}
-use Rattle.rx_term.specs.Store.{head_of, part_at, tree_at}
+use Rattle.std.proofs.Common.{subst}
 use Rattle.rec_match.specs.Next.{Answers}
-use Rattle.rec_trace.proofs.BoundLemmas.{bound-of-answer}
-use Rattle.rec_trace.proofs.ListLemmas.{head-is}
+use Rattle.rec_trace.proofs.BoundLemmas.{bound-of-answer, number-of-answer}
+use Rattle.rec_trace.proofs.TopLemmas.{is-top}
 use Rattle.rec_trace.proofs.tracer.Tracer.next_rule.Goals as goal
 
 pub returns-in-Ok-clause-bound : goal.returns-in-Ok-clause-bound
@@ -10,9 +9,17 @@ returns-in-Ok-clause-bound g c =
     let y = c.args.engine.now.spec in
     let w = g.B.TermBank.store c.args.engine.now.bank in
     let t = c.args.self.now in
-    let redex = subst (λ k. tree_at (g.B.TermBank.store k) c.head-redex.result ≡ part_at head_of (g.B.TermBank.store k) t.lists.stack) c.bank.ensures
-    c.head-redex.ensures ∙ head-is w t.lists.stack c.requires.order.kept.stack c.requires.some in
-    let answers = subst (λ b. Answers (g.B.TermBank.store b) c.matcher.result.now c.head-redex.result c.args.from c.next.new.bind.items c.in-Ok.found)
-    c.bank-2.ensures c.in-Ok.ensures.answers in
-    bound-of-answer y w t c.head-redex.result c.args.from c.next.new.bind.items c.in-Ok.found c.requires.order.kept.stack c.requires.some redex
-    (answers y c.matcher.ensures)
+    let top = is-top y w t c.top-redex.result c.requires.order c.requires.some c.top-redex.ensures in
+    let answers = subst (λ b. Answers (g.B.TermBank.store b) c.matcher.result.now c.top-redex.result c.args.from c.next_on-found.new.bind.items c.in-Ok.rule)
+    c.bank.ensures c.in-Ok.ensures.answers in
+    bound-of-answer y w t c.top-redex.result c.args.from c.next_on-found.new.bind.items c.in-Ok.rule top (answers y c.matcher.ensures)
+
+pub returns-in-Ok-clause-found : goal.returns-in-Ok-clause-found
+returns-in-Ok-clause-found g c =
+    let y = c.args.engine.now.spec in
+    let w = g.B.TermBank.store c.args.engine.now.bank in
+    let t = c.args.self.now in
+    let top = is-top y w t c.top-redex.result c.requires.order c.requires.some c.top-redex.ensures in
+    let answers = subst (λ b. Answers (g.B.TermBank.store b) c.matcher.result.now c.top-redex.result c.args.from c.next_on-found.new.bind.items c.in-Ok.rule)
+    c.bank.ensures c.in-Ok.ensures.answers in
+    number-of-answer y w t c.top-redex.result c.args.from c.next_on-found.new.bind.items c.in-Ok.rule top (answers y c.matcher.ensures)

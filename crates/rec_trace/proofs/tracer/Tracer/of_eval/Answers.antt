@@ -12,8 +12,9 @@ use Rattle.rec_engine.specs.Inner.Made.{MakesOne}
 use Rattle.rec_engine.proofs.EngineLemmas.{row-makes, rows-long}
 use Rattle.rec_trace.specs.Trace.{Trace}
 use Rattle.rec_trace.specs.Tracing.{Stands, rest_of, whole_of}
-use Rattle.rec_trace.specs.declared.tracer.Tracer.{Tracer}
-use Rattle.rec_trace.proofs.StepLemmas.{new-stands}
+use Rattle.rec_trace.proofs.BeginLemmas.{Begins, is-new, new-stands}
+use Rattle.rec_trace.proofs.tracer.Tracer.of_eval.Given as given
+use Rattle.rec_trace.proofs.tracer.Tracer.of_eval.Goals.{After-new}
 use Rattle.rec_trace.proofs.tracer.Tracer.of_eval.Goals as goal
 
 no_term : X.Term
@@ -36,52 +37,47 @@ ground_steps-requires g c =
     c.index-terms-i.is no_term in
     (y, (subst (λ ls. MakesOne y ls (tree_of (get_or y.terms c.args.i no_term))) (sym c.deref.ensures.value) made).applied)
 
-pub returns-clause-stands : goal.returns-clause-stands
-returns-clause-stands g c =
+-- the term is one of the specification's
+within : (g : given.Over) (c : After-new g) → c.args.i < length c.checked.result.now.spec.terms
+within g c = subst (λ (z : Spec). c.args.i < length z.terms) (sym c.checked.ensures) c.requires
+
+-- its trace begins
+begun : (g : given.Over) (c : After-new g)
+    → Begins c.checked.result.now.spec (g.B.TermBank.store c.none.new.engine.bank) c.new.result c.args.n
+    (get_or c.checked.result.now.spec.terms c.args.i no_term)
+begun g c =
     let y = c.checked.result.now.spec in
-    let w = g.B.TermBank.store c.empty.new.engine.bank in
-    let r : Tracer = record { steps = c.in_ok-steps.steps; lists = c.in_ok-lists.lists; left = c.args.n } in
-    let within = subst (λ (z : Spec). c.args.i < length z.terms) (sym c.checked.ensures) c.requires in
     let term = get_or y.terms c.args.i no_term in
     let made = subst (λ ls. MakesOne y ls (tree_of term)) (sym c.deref.ensures.value)
-    (row-makes items y c.terms.result.now c.terms.ensures.letters c.terms.ensures.kept c.args.i within c.index-terms-i.result c.index-terms-i.is no_term) in
+    (row-makes items y c.terms.result.now c.terms.ensures.letters c.terms.ensures.kept c.args.i (within g c) c.index-terms-i.result c.index-terms-i.is
+    no_term) in
     let letters = subst (λ ls. AreLetters y ls term) (sym c.deref.ensures.value)
     (subst (λ x. AreLetters y (items x) term) (sym c.index-terms-i.is)
-    (pair-at (λ v t. AreLetters y (items v) t) c.terms.result.now y.terms c.terms.ensures.letters c.args.i c.index-terms-i.result no_term within)) in
-    let of = c.in_ok-lists.ensures in
-    subst (λ z. Stands z w r) c.checked.ensures
-    (new-stands y w r c.deref.result.now term c.terms.ensures.kept of.kept of.given of.stack (c.in_ok-steps.ensures y made.applied) letters).0
+    (pair-at (λ v t. AreLetters y (items v) t) c.terms.result.now y.terms c.terms.ensures.letters c.args.i c.index-terms-i.result no_term (within g c))) in
+    let of = c.in_ok-saved.ensures in
+    new-stands y (g.B.TermBank.store c.none.new.engine.bank) c.new.result c.in_ok-steps.steps.items c.args.n c.deref.result.now term c.terms.ensures.kept
+    (is-new (g.B.TermBank.store c.none.new.engine.bank) c.new.result c.of_steps.result c.in_ok-steps.steps c.in_ok-saved.saved c.args.n c.new.ensures.row
+    c.new.ensures.saved c.new.ensures.left c.of_steps.ensures.steps c.of_steps.ensures.values c.of_steps.ensures.low of.kept of.none of.count)
+    (c.in_ok-steps.ensures y made.applied) letters
+
+pub returns-clause-stands : goal.returns-clause-stands
+returns-clause-stands g c = subst (λ z. Stands z (g.B.TermBank.store c.none.new.engine.bank) c.new.result) c.checked.ensures
+    (begun g (goal.at.returns-clause-stands g c).After-new).stands
 
 pub returns-clause-begins : goal.returns-clause-begins
 returns-clause-begins g c =
     let y = c.checked.result.now.spec in
-    let w = g.B.TermBank.store c.empty.new.engine.bank in
-    let r : Tracer = record { steps = c.in_ok-steps.steps; lists = c.in_ok-lists.lists; left = c.args.n } in
-    let within = subst (λ (z : Spec). c.args.i < length z.terms) (sym c.checked.ensures) c.requires in
-    let term = get_or y.terms c.args.i no_term in
-    let made = subst (λ ls. MakesOne y ls (tree_of term)) (sym c.deref.ensures.value)
-    (row-makes items y c.terms.result.now c.terms.ensures.letters c.terms.ensures.kept c.args.i within c.index-terms-i.result c.index-terms-i.is no_term) in
-    let letters = subst (λ ls. AreLetters y ls term) (sym c.deref.ensures.value)
-    (subst (λ x. AreLetters y (items x) term) (sym c.index-terms-i.is)
-    (pair-at (λ v t. AreLetters y (items v) t) c.terms.result.now y.terms c.terms.ensures.letters c.args.i c.index-terms-i.result no_term within)) in
-    let of = c.in_ok-lists.ensures in
-    subst (λ (z : Spec). IfSome (slice_get z.terms c.args.i) (λ t. rest_of z w r ≡ Trace z c.args.n t)) c.checked.ensures
-    (subst (λ o. IfSome o (λ t. rest_of y w r ≡ Trace y c.args.n t)) (sym (slice_get-get_or y.terms c.args.i no_term within))
-    (new-stands y w r c.deref.result.now term c.terms.ensures.kept of.kept of.given of.stack (c.in_ok-steps.ensures y made.applied) letters).1)
+    let w = g.B.TermBank.store c.none.new.engine.bank in
+    let at = (goal.at.returns-clause-begins g c).After-new in
+    subst (λ (z : Spec). IfSome (slice_get z.terms c.args.i) (λ t. rest_of z w c.new.result ≡ Trace z c.args.n t)) c.checked.ensures
+    (subst (λ o. IfSome o (λ t. rest_of y w c.new.result ≡ Trace y c.args.n t)) (sym (slice_get-get_or y.terms c.args.i no_term (within g at)))
+    (begun g at).begins)
 
 pub returns-clause-whole : goal.returns-clause-whole
 returns-clause-whole g c =
     let y = c.checked.result.now.spec in
-    let w = g.B.TermBank.store c.empty.new.engine.bank in
-    let r : Tracer = record { steps = c.in_ok-steps.steps; lists = c.in_ok-lists.lists; left = c.args.n } in
-    let within = subst (λ (z : Spec). c.args.i < length z.terms) (sym c.checked.ensures) c.requires in
-    let term = get_or y.terms c.args.i no_term in
-    let made = subst (λ ls. MakesOne y ls (tree_of term)) (sym c.deref.ensures.value)
-    (row-makes items y c.terms.result.now c.terms.ensures.letters c.terms.ensures.kept c.args.i within c.index-terms-i.result c.index-terms-i.is no_term) in
-    let letters = subst (λ ls. AreLetters y ls term) (sym c.deref.ensures.value)
-    (subst (λ x. AreLetters y (items x) term) (sym c.index-terms-i.is)
-    (pair-at (λ v t. AreLetters y (items v) t) c.terms.result.now y.terms c.terms.ensures.letters c.args.i c.index-terms-i.result no_term within)) in
-    let of = c.in_ok-lists.ensures in
-    subst (λ (z : Spec). IfSome (slice_get z.terms c.args.i) (λ t. whole_of z w r ≡ tree_of t)) c.checked.ensures
-    (subst (λ o. IfSome o (λ t. whole_of y w r ≡ tree_of t)) (sym (slice_get-get_or y.terms c.args.i no_term within))
-    (new-stands y w r c.deref.result.now term c.terms.ensures.kept of.kept of.given of.stack (c.in_ok-steps.ensures y made.applied) letters).2)
+    let w = g.B.TermBank.store c.none.new.engine.bank in
+    let at = (goal.at.returns-clause-whole g c).After-new in
+    subst (λ (z : Spec). IfSome (slice_get z.terms c.args.i) (λ t. whole_of z w c.new.result ≡ tree_of t)) c.checked.ensures
+    (subst (λ o. IfSome o (λ t. whole_of y w c.new.result ≡ tree_of t)) (sym (slice_get-get_or y.terms c.args.i no_term (within g at)))
+    (begun g at).whole)

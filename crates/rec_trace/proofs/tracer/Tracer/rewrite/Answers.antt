@@ -1,122 +1,82 @@
-use Rattle.std.proofs.Common.{reverse, subst, sym, ◌∙◌}
-use Rattle.std.specs.Prelude.{List}
-use Rattle.rec_trace.specs.Lists.{AreKept, Stays, listed}
-use Rattle.rec_trace.specs.Tracing.{AreSteps, IsInOrder, Rewrites}
-use Rattle.rec_trace.specs.declared.tracer.Step.{Step}
-use Rattle.rec_trace.proofs.SideLemmas.{if-ok}
-use Rattle.rec_trace.proofs.WholeLemmas.{apart-stays, copy-gone, refused-stays, stands-still}
+use Rattle.std.proofs.Common.{[], subst, sym, ◌∙◌}
+use Rattle.rec_trace.specs.Lists.{Stays}
+use Rattle.rec_trace.specs.Tracing.{Rewrites}
+use Rattle.rec_trace.proofs.RewriteLemmas.{StandsStill, above-redex, rewritten, stays-called, under-redex}
+use Rattle.rec_trace.proofs.tracer.Tracer.rewrite.Given as given
+use Rattle.rec_trace.proofs.tracer.Tracer.rewrite.Goals.{In_ok-contractum}
 use Rattle.rec_trace.proofs.tracer.Tracer.rewrite.Goals as goal
 
-pub returns-in_err-apart-clause-spares : goal.returns-in_err-apart-clause-spares
-returns-in_err-apart-clause-spares g c =
+pub write_contractum-requires : goal.write_contractum-requires
+write_contractum-requires g c =
     let w = g.B.TermBank.store c.args.engine.now.bank in
-    let w1 = g.B.TermBank.store c.apart.new.engine.bank in
+    let w1 = g.B.TermBank.store c.save.new.engine.bank in
     let t = c.args.self.now in
-    let left = c.in_err-apart.ensures in
-    refused-stays w w1 t.lists left.kept left.err left.trees left.cap
+    let u = c.requires.redex.0 in
+    let same = above-redex w t.row c.give.new.self c.args.redex u c.requires.stands.order.row.held c.requires.redex.2 c.in_ok-give.ensures.values w1
+    c.in_ok-save.ensures.saves.parts in
+    record {
+      redex = (
+        u,
+        c.requires.redex.1,
+        same ∙ c.requires.redex.2,
+        subst (λ y. Rewrites y c.args.rule u c.requires.redex.1) (sym c.save.ensures.same.spec) c.requires.redex.3,
+      );
+    }
 
-pub returns-in_err-apart-clause-stands : goal.returns-in_err-apart-clause-stands
-returns-in_err-apart-clause-stands g c =
-    let w = g.B.TermBank.store c.args.engine.now.bank in
-    let w1 = g.B.TermBank.store c.apart.new.engine.bank in
-    let t = c.args.self.now in
-    let left = c.in_err-apart.ensures in
-    (stands-still c.args.engine.now.spec w w1 t c.requires.stands left.kept (left.trees t.lists.given) (left.trees t.lists.stack)).stands
-
-pub returns-in_err-apart-clause-rest : goal.returns-in_err-apart-clause-rest
-returns-in_err-apart-clause-rest g c =
-    let w = g.B.TermBank.store c.args.engine.now.bank in
-    let w1 = g.B.TermBank.store c.apart.new.engine.bank in
-    let t = c.args.self.now in
-    let left = c.in_err-apart.ensures in
-    (stands-still c.args.engine.now.spec w w1 t c.requires.stands left.kept (left.trees t.lists.given) (left.trees t.lists.stack)).rest
-
-pub returns-in_err-apart-clause-whole : goal.returns-in_err-apart-clause-whole
-returns-in_err-apart-clause-whole g c =
-    let w = g.B.TermBank.store c.args.engine.now.bank in
-    let w1 = g.B.TermBank.store c.apart.new.engine.bank in
-    let t = c.args.self.now in
-    let left = c.in_err-apart.ensures in
-    (stands-still c.args.engine.now.spec w w1 t c.requires.stands left.kept (left.trees t.lists.given) (left.trees t.lists.stack)).whole
-
-pub write_side-made-requires-clause-order : goal.write_side-made-requires-clause-order
-write_side-made-requires-clause-order g c =
-    let y = c.args.engine.now.spec in
-    let w1 = g.B.TermBank.store c.apart.new.engine.bank in
-    let made = c.in_ok-apart.ensures in
-    subst (λ z. IsInOrder z w1 c.in_ok-apart.apart) (sym made.same.spec) (record {
-      good = c.requires.stands.order.good;
-      kept = subst (AreKept w1) (sym made.lists) made.kept;
-      steps = subst (λ (xs : List Step). AreSteps y (reverse xs) (listed w1 c.in_ok-apart.apart.lists.given)) (sym made.steps) tt;
-    })
-
-pub write_side-made-requires-clause-redex : goal.write_side-made-requires-clause-redex
-write_side-made-requires-clause-redex g c =
-    let q = c.requires.redex in
-    let made = c.in_ok-apart.ensures in
-    (q.0, q.1, made.trees c.args.redex ∙ q.2, subst (λ z. Rewrites z c.args.rule q.0 q.1) (sym made.same.spec) q.3)
+pub returns-in_err-contractum-clause-spares : goal.returns-in_err-contractum-clause-spares
+returns-in_err-contractum-clause-spares g c =
+    subst (λ s. Stays (g.B.TermBank.store c.args.engine.now.bank) (g.B.TermBank.store c.write_contractum.new.engine.bank) c.args.self.now.saved.list s.list)
+    (sym c.write_contractum.ensures.saved)
+    (stays-called (g.B.TermBank.store c.args.engine.now.bank) (g.B.TermBank.store c.save.new.engine.bank)
+    (g.B.TermBank.store c.write_contractum.new.engine.bank) c.args.self.now.saved.list c.save.new.self.list [] c.save.ensures.stays
+    c.write_contractum.ensures.keeps)
 
 pub returns-clause-spares : goal.returns-clause-spares
 returns-clause-spares g c =
+    subst (λ s. Stays (g.B.TermBank.store c.args.engine.now.bank) (g.B.TermBank.store c.write_contractum.new.engine.bank) c.args.self.now.saved.list s.list)
+    (sym c.write_contractum.ensures.saved)
+    (stays-called (g.B.TermBank.store c.args.engine.now.bank) (g.B.TermBank.store c.save.new.engine.bank)
+    (g.B.TermBank.store c.write_contractum.new.engine.bank) c.args.self.now.saved.list c.save.new.self.list [] c.save.ensures.stays
+    c.write_contractum.ensures.keeps)
+
+-- the state stays
+still : (g : given.Over) (c : In_ok-contractum g)
+    → StandsStill c.args.engine.now.spec (g.B.TermBank.store c.args.engine.now.bank) (g.B.TermBank.store c.write_contractum.new.engine.bank)
+    c.args.self.now c.write_contractum.new.self
+still g c =
     let w = g.B.TermBank.store c.args.engine.now.bank in
-    let w1 = g.B.TermBank.store c.apart.new.engine.bank in
-    let w2 = g.B.TermBank.store c.write_side-made.new.engine.bank in
-    let w3 = g.B.TermBank.store c.end.new.engine.bank in
+    let w1 = g.B.TermBank.store c.save.new.engine.bank in
+    let w2 = g.B.TermBank.store c.write_contractum.new.engine.bank in
     let t = c.args.self.now in
-    let m = c.write_side-made.new.self.lists in
-    let made = c.in_ok-apart.ensures in
-    let stays = subst (λ l. Stays w1 w2 l m) made.lists c.write_side-made.ensures.stays in
-    let gone = copy-gone w1 w2 w3 t.lists m made.twice stays c.end.ensures.counts c.end.ensures.trees in
-    apart-stays w w1 w2 w3 t.lists m gone.kept made.ok made.trees made.cap stays c.end.ensures.counts c.end.ensures.trees c.end.ensures.cap
+    rewritten c.args.engine.now.spec w w1 w2 t c.write_contractum.new.self c.give.new.self c.save.new.row c.cut.new.self c.save.new.self c.args.redex
+    c.requires.redex.0 c.len-count.result [] c.requires.stands c.requires.redex.2 c.in_ok-give.ensures.values c.give.ensures.steps
+    (c.len-count.ensures ∙ t.row.values.ok.0) c.in_ok-save.ensures.saves c.cut.ensures.values c.cut.ensures.steps c.cut.ensures.low
+    c.write_contractum.ensures.keeps c.write_contractum.ensures.row c.write_contractum.ensures.saved c.write_contractum.ensures.left
 
 pub returns-clause-stands : goal.returns-clause-stands
-returns-clause-stands g c =
-    let w = g.B.TermBank.store c.args.engine.now.bank in
-    let w1 = g.B.TermBank.store c.apart.new.engine.bank in
-    let w2 = g.B.TermBank.store c.write_side-made.new.engine.bank in
-    let w3 = g.B.TermBank.store c.end.new.engine.bank in
-    let t = c.args.self.now in
-    let m = c.write_side-made.new.self.lists in
-    let made = c.in_ok-apart.ensures in
-    let stays = subst (λ l. Stays w1 w2 l m) made.lists c.write_side-made.ensures.stays in
-    let gone = copy-gone w1 w2 w3 t.lists m made.twice stays c.end.ensures.counts c.end.ensures.trees in
-    (stands-still c.args.engine.now.spec w w3 t c.requires.stands gone.kept
-    (gone.given ∙ made.trees t.lists.given) (gone.stack ∙ made.trees t.lists.stack)).stands
+returns-clause-stands g c = (still g (goal.at.returns-clause-stands g c).In_ok-contractum).stands
 
 pub returns-clause-rest : goal.returns-clause-rest
-returns-clause-rest g c =
-    let w = g.B.TermBank.store c.args.engine.now.bank in
-    let w1 = g.B.TermBank.store c.apart.new.engine.bank in
-    let w2 = g.B.TermBank.store c.write_side-made.new.engine.bank in
-    let w3 = g.B.TermBank.store c.end.new.engine.bank in
-    let t = c.args.self.now in
-    let m = c.write_side-made.new.self.lists in
-    let made = c.in_ok-apart.ensures in
-    let stays = subst (λ l. Stays w1 w2 l m) made.lists c.write_side-made.ensures.stays in
-    let gone = copy-gone w1 w2 w3 t.lists m made.twice stays c.end.ensures.counts c.end.ensures.trees in
-    (stands-still c.args.engine.now.spec w w3 t c.requires.stands gone.kept
-    (gone.given ∙ made.trees t.lists.given) (gone.stack ∙ made.trees t.lists.stack)).rest
+returns-clause-rest g c = (still g (goal.at.returns-clause-rest g c).In_ok-contractum).rest
 
 pub returns-clause-whole : goal.returns-clause-whole
-returns-clause-whole g c =
-    let w = g.B.TermBank.store c.args.engine.now.bank in
-    let w1 = g.B.TermBank.store c.apart.new.engine.bank in
-    let w2 = g.B.TermBank.store c.write_side-made.new.engine.bank in
-    let w3 = g.B.TermBank.store c.end.new.engine.bank in
-    let t = c.args.self.now in
-    let m = c.write_side-made.new.self.lists in
-    let made = c.in_ok-apart.ensures in
-    let stays = subst (λ l. Stays w1 w2 l m) made.lists c.write_side-made.ensures.stays in
-    let gone = copy-gone w1 w2 w3 t.lists m made.twice stays c.end.ensures.counts c.end.ensures.trees in
-    (stands-still c.args.engine.now.spec w w3 t c.requires.stands gone.kept
-    (gone.given ∙ made.trees t.lists.given) (gone.stack ∙ made.trees t.lists.stack)).whole
+returns-clause-whole g c = (still g (goal.at.returns-clause-whole g c).In_ok-contractum).whole
 
 pub returns-clause-redex : goal.returns-clause-redex
-returns-clause-redex g c = if-ok c.write_side-made.result (λ m h. c.end.ensures.trees m.redex ∙ h ∙ c.in_ok-apart.ensures.trees c.args.redex)
-    c.write_side-made.ensures.redex
+returns-clause-redex g c =
+    let w = g.B.TermBank.store c.args.engine.now.bank in
+    let w1 = g.B.TermBank.store c.save.new.engine.bank in
+    let w2 = g.B.TermBank.store c.write_contractum.new.engine.bank in
+    let t = c.args.self.now in
+    under-redex w t.row c.give.new.self c.args.redex c.requires.redex.0 c.requires.stands.order.row.held c.requires.redex.2 c.in_ok-give.ensures.values
+    w1 w2 c.len-count.result (c.len-count.ensures ∙ t.row.values.ok.0) c.save.new.row c.cut.new.self c.save.new.self [] c.in_ok-save.ensures.saves
+    c.cut.ensures.values c.cut.ensures.low c.write_contractum.ensures.keeps
 
 pub returns-clause-contractum : goal.returns-clause-contractum
-returns-clause-contractum g c = if-ok c.write_side-made.result (λ m h u v at rewrites.
-    c.end.ensures.trees m.contractum ∙ h u v (c.in_ok-apart.ensures.trees c.args.redex ∙ at)
-    (subst (λ z. Rewrites z c.args.rule u v) (sym c.in_ok-apart.ensures.same.spec) rewrites))
-    c.write_side-made.ensures.contractum
+returns-clause-contractum g c = λ u v redex_at rewrites.
+    let w = g.B.TermBank.store c.args.engine.now.bank in
+    let w1 = g.B.TermBank.store c.save.new.engine.bank in
+    let t = c.args.self.now in
+    let same = above-redex w t.row c.give.new.self c.args.redex u c.requires.stands.order.row.held redex_at c.in_ok-give.ensures.values w1
+    c.in_ok-save.ensures.saves.parts in
+    c.in_ok-contractum.ensures.contractum u v (same ∙ redex_at) (subst (λ y. Rewrites y c.args.rule u v) (sym c.save.ensures.same.spec) rewrites)

@@ -1,6 +1,5 @@
-use Rattle.std.proofs.Common.{◌≡◌, ◌<◌, ap, arith, length, refl, subst, sym, ◌∙◌}
-use Rattle.std.specs.Prelude.{Bool, List, Option, Some, vec_len}
-use Rattle.rx_term.specs.Tree.{Tree}
+use Rattle.std.proofs.Common.{◌≡◌, ap, arith, length, refl, subst, sym, ◌∙◌}
+use Rattle.std.specs.Prelude.{Bool, Option, Some, true, vec_len}
 use Rattle.rec_sorts.specs.Binding.{next_match}
 use Rattle.rec_sorts.specs.Evaluation.{Holds}
 use Rattle.rec_sorts.specs.Numbering.{IsLetterRule, Pairwise}
@@ -10,7 +9,7 @@ use Rattle.rec_trace.specs.Inner.Sides.{IsMatch}
 use Rattle.rec_trace.specs.Inner.Turns.{IsBound, number_of}
 use Rattle.rec_trace.specs.Tracing.{AreAnswered, IsInOrder, on_top, stack_at}
 use Rattle.rec_trace.proofs.BoundLemmas.{found-itself}
-use Rattle.rec_trace.proofs.ConditionLemmas.{all-asked, same-first}
+use Rattle.rec_trace.proofs.ConditionLemmas.{all-asked, answered-row, same-first, same-reach}
 use Rattle.rec_trace.proofs.SideLemmas.{rule-at, rule-read}
 use Rattle.rec_trace.proofs.tracer.Tracer.try_rule.Goals as goal
 
@@ -57,7 +56,7 @@ next_rule-requires-clause-some g c =
     let q = c.requires.can in
     let answer = subst (AreAnswered y w w1 a d (Holds y a.left q.1 q.0.conditions))
     (c.in-Some-true.is ∙ ap (λ v. let o : Option Bool = Some v in o) c.in-Some-true.field-0-test) (c.in_ok-conditions.ensures.answers q.0 q.1 q.2) in
-    subst (λ (st : List Tree). 0 < length st) (sym answer.1.stack) q.3
+    same-reach y w w1 a d 0 answer.1 c.requires.some
 
 pub returns-in_ok-_same-in-Some-true-clause-answers : goal.returns-in_ok-_same-in-Some-true-clause-answers
 returns-in_ok-_same-in-Some-true-clause-answers g c = λ r s match.
@@ -65,8 +64,10 @@ returns-in_ok-_same-in-Some-true-clause-answers g c = λ r s match.
     let w = g.B.TermBank.store c.args.engine.now.bank in
     let w1 = g.B.TermBank.store c.conditions.new.engine.bank in
     let a = c.args.self.now in
-    subst (AreAnswered y w w1 a c.conditions.new.self (Holds y a.left s r.conditions))
-    (c.in-Some-true.is ∙ ap (λ v. let o : Option Bool = Some v in o) c.in-Some-true.field-0-test) (c.in_ok-conditions.ensures.answers r s match)
+    answered-row y w w1 a c.conditions.new.self c.next_rule.new.self (Holds y a.left s r.conditions) true
+    (subst (AreAnswered y w w1 a c.conditions.new.self (Holds y a.left s r.conditions))
+    (c.in-Some-true.is ∙ ap (λ v. let o : Option Bool = Some v in o) c.in-Some-true.field-0-test) (c.in_ok-conditions.ensures.answers r s match))
+    c.next_rule.ensures.row c.next_rule.ensures.saved c.next_rule.ensures.left
 
 pub returns-in_ok-_same-in-Some-true-clause-bound : goal.returns-in_ok-_same-in-Some-true-clause-bound
 returns-in_ok-_same-in-Some-true-clause-bound g c = λ e.
@@ -82,7 +83,7 @@ returns-in_ok-_same-in-Some-true-clause-bound g c = λ e.
     let again = subst (λ z. number_of (next_match z c.args.rule (on_top (stack_at w1 d))) ≡ c.in_ok-_same-in-Some-true._same) c.conditions.ensures.same.spec
     c.in_ok-_same-in-Some-true.ensures.found in
     let itself = found-itself y c.args.rule (on_top (stack_at w1 d)) q.0 q.1 c.in_ok-_same-in-Some-true._same match again in
-    subst (λ z. IsBound z w1 d c.args.rule c.next_rule.new.bind.items) c.conditions.ensures.same.spec
+    subst (λ z. IsBound z w1 c.next_rule.new.self c.args.rule c.next_rule.new.self.bind.items) c.conditions.ensures.same.spec
     (c.in_ok-_same-in-Some-true.ensures.bound c.args.rule itself)
 
 pub returns-in-Some-false-clause-answers : goal.returns-in-Some-false-clause-answers

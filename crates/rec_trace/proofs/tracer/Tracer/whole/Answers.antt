@@ -1,40 +1,58 @@
-use Rattle.std.proofs.Common.{subst, sym, ◌∙◌}
-use Rattle.rec_trace.specs.Lists.{Stays}
-use Rattle.rec_trace.specs.Tracing.{Stands}
-use Rattle.rec_trace.proofs.StepLemmas.{same-stands}
-use Rattle.rec_trace.proofs.WholeLemmas.{copy-gone, stands-still}
+use Rattle.std.proofs.Common.{[], ap, refl, subst, sym, ◌∙◌}
+use Rattle.std.specs.Prelude.{Vec}
+use Rattle.std.specs.declared.alloc.Global.{Global}
+use Rattle.rec_trace.specs.Tracing.{whole_of}
+use Rattle.rec_trace.specs.declared.row.Step.{Step}
+use Rattle.rec_trace.specs.declared.tracer.Tracer.{Tracer}
+use Rattle.rec_trace.proofs.RewriteLemmas.{IsWritten, copy-answer, copy-written, if-always, stays-called, still-after}
+use Rattle.rec_trace.proofs.tracer.Tracer.whole.Given as given
+use Rattle.rec_trace.proofs.tracer.Tracer.whole.Goals.{In_ok-copy}
 use Rattle.rec_trace.proofs.tracer.Tracer.whole.Goals as goal
 
-pub write_down-whole-requires : goal.write_down-whole-requires
-write_down-whole-requires g c =
+-- the copy writes down the whole term
+wrote : (g : given.Over) (c : In_ok-copy g) → IsWritten c.save.new.engine.spec (g.B.TermBank.store c.save.new.engine.bank) c.in_ok-copy.copy
+    (whole_of c.args.engine.now.spec (g.B.TermBank.store c.args.engine.now.bank) c.args.self.now)
+wrote g c =
     let y = c.args.engine.now.spec in
     let w = g.B.TermBank.store c.args.engine.now.bank in
-    let w1 = g.B.TermBank.store c.copied.new.engine.bank in
+    let w1 = g.B.TermBank.store c.save.new.engine.bank in
     let t = c.args.self.now in
-    let made = c.in_ok-copy.ensures in
-    let still = stands-still y w w1 t c.requires made.kept (made.trees t.lists.given) (made.trees t.lists.stack) in
-    subst (λ z. Stands z w1 c.in_ok-copy.copy) (sym made.same.spec) (same-stands y w1 t c.in_ok-copy.copy still.stands made.lists made.steps)
+    let saves = c.in_ok-save.ensures.saves in
+    subst (λ z. IsWritten z w1 c.in_ok-copy.copy (whole_of y w t)) (sym c.save.ensures.same.spec)
+    (copy-written y w w1 t c.in_ok-copy.copy c.requires (c.in_ok-copy.ensures.steps ∙ ap (λ (v : Vec Step Global). v.items) saves.steps)
+    (c.in_ok-copy.ensures.values ∙ saves.values) saves.parts)
+
+pub write-requires-clause-row : goal.write-requires-clause-row
+write-requires-clause-row g c = (wrote g (goal.at.write-requires-clause-row g c).In_ok-copy).row
+
+pub write-requires-clause-fits : goal.write-requires-clause-fits
+write-requires-clause-fits g c = (wrote g (goal.at.write-requires-clause-fits g c).In_ok-copy).fits
+
+pub returns-clause-spares : goal.returns-clause-spares
+returns-clause-spares g c =
+    stays-called (g.B.TermBank.store c.args.engine.now.bank) (g.B.TermBank.store c.save.new.engine.bank) (g.B.TermBank.store c.write.new.engine.bank)
+    c.args.self.now.saved.list c.save.new.self.list [] c.save.ensures.stays c.write.ensures.keeps
 
 pub returns-clause-stands : goal.returns-clause-stands
 returns-clause-stands g c =
-    let w = g.B.TermBank.store c.args.engine.now.bank in
-    let w1 = g.B.TermBank.store c.copied.new.engine.bank in
-    let w2 = g.B.TermBank.store c.write_down-whole.new.engine.bank in
-    let w3 = g.B.TermBank.store c.end.new.engine.bank in
     let t = c.args.self.now in
-    let made = c.in_ok-copy.ensures in
-    let gone = copy-gone w1 w2 w3 t.lists c.write_down-whole.new.self.lists made.twice
-    (subst (λ l. Stays w1 w2 l c.write_down-whole.new.self.lists) made.lists c.write_down-whole.ensures.stays) c.end.ensures.counts c.end.ensures.trees in
-    (stands-still c.args.engine.now.spec w w3 t c.requires gone.kept (gone.given ∙ made.trees t.lists.given) (gone.stack ∙ made.trees t.lists.stack)).stands
+    let new : Tracer = record { row = c.save.new.row; saved = c.save.new.self; left = t.left; bind = t.bind; work = t.work } in
+    let still = still-after c.args.engine.now.spec (g.B.TermBank.store c.args.engine.now.bank) (g.B.TermBank.store c.save.new.engine.bank)
+    (g.B.TermBank.store c.write.new.engine.bank) t new c.len-count.result [] c.requires (c.len-count.ensures ∙ t.row.values.ok.0)
+    c.in_ok-save.ensures.saves c.write.ensures.keeps refl in
+    if-always c.write.result still.stands
 
 pub returns-clause-rest : goal.returns-clause-rest
 returns-clause-rest g c =
-    let w = g.B.TermBank.store c.args.engine.now.bank in
-    let w1 = g.B.TermBank.store c.copied.new.engine.bank in
-    let w2 = g.B.TermBank.store c.write_down-whole.new.engine.bank in
-    let w3 = g.B.TermBank.store c.end.new.engine.bank in
     let t = c.args.self.now in
-    let made = c.in_ok-copy.ensures in
-    let gone = copy-gone w1 w2 w3 t.lists c.write_down-whole.new.self.lists made.twice
-    (subst (λ l. Stays w1 w2 l c.write_down-whole.new.self.lists) made.lists c.write_down-whole.ensures.stays) c.end.ensures.counts c.end.ensures.trees in
-    (stands-still c.args.engine.now.spec w w3 t c.requires gone.kept (gone.given ∙ made.trees t.lists.given) (gone.stack ∙ made.trees t.lists.stack)).rest
+    let new : Tracer = record { row = c.save.new.row; saved = c.save.new.self; left = t.left; bind = t.bind; work = t.work } in
+    let still = still-after c.args.engine.now.spec (g.B.TermBank.store c.args.engine.now.bank) (g.B.TermBank.store c.save.new.engine.bank)
+    (g.B.TermBank.store c.write.new.engine.bank) t new c.len-count.result [] c.requires (c.len-count.ensures ∙ t.row.values.ok.0)
+    c.in_ok-save.ensures.saves c.write.ensures.keeps refl in
+    if-always c.write.result still.rest
+
+pub returns-clause-whole : goal.returns-clause-whole
+returns-clause-whole g c =
+    copy-answer c.save.new.engine.spec (g.B.TermBank.store c.save.new.engine.bank) (g.B.TermBank.store c.write.new.engine.bank) c.in_ok-copy.copy
+    (whole_of c.args.engine.now.spec (g.B.TermBank.store c.args.engine.now.bank) c.args.self.now) c.write.result
+    (wrote g (goal.at.returns-clause-whole g c).In_ok-copy) c.write.ensures.written

@@ -1,0 +1,25 @@
+use Rattle.std.proofs.Common.{◌∷◌, ◌++◌, [], subst, sym}
+use Rattle.rec_trace.specs.Lists.{Stays}
+use Rattle.rec_trace.proofs.ListLemmas.{same_both, stays-kept, stays-trans}
+use Rattle.rec_trace.proofs.SavedLemmas.{saving-next}
+use Rattle.rec_trace.proofs.saved.Saved.lengthen.Goals as goal
+
+pub returns-in_err-list-clause-stays : goal.returns-in_err-list-clause-stays
+returns-in_err-list-clause-stays g c =
+    let h = c.values.invariant.1 in
+    stays-trans h.stays (stays-kept _ _ (c.values.values.items ++ c.values.self.list ∷ []) c.values.self.list h.stays.kept c.hold_on.ensures.keeps)
+
+pub returns-in_err-protect_instead-clause-stays : goal.returns-in_err-protect_instead-clause-stays
+returns-in_err-protect_instead-clause-stays g c =
+    let h = c.values.invariant.1 in
+    subst (λ x. Stays (g.B.TermBank.store c.args.engine.now.bank) x c.args.self.now.list c.values.self.list) (sym c.in_err-protect_instead.ensures.err)
+    (stays-trans h.stays (stays-kept _ _ (c.values.values.items ++ c.values.self.list ∷ []) c.values.self.list h.stays.kept c.hold_on.ensures.keeps))
+
+pub values-preserved : goal.values-preserved
+values-preserved g c = (
+  same_both (same_both c.values.invariant.0 c.hold_on.ensures.same) c.protect_instead.ensures.same,
+  saving-next (g.B.TermBank.store c.args.engine.now.bank) (g.B.TermBank.store c.values.engine.bank) (g.B.TermBank.store c.hold_on.new.self.bank)
+      (g.B.TermBank.store c.protect_instead.new.engine.bank) c.args.self.now c.values.self c.args.values.now.items c.values.values.items
+      c.hold_on.new.stack.items c.args.count c.in_ok-list.list c.values.invariant.1 c.values-test.true c.hold_on.ensures.keeps
+      c.in_ok-list.ensures.stack c.in_ok-list.ensures.held c.in_ok-protect_instead.ensures.ok,
+)

@@ -1,0 +1,193 @@
+//! A row of steps over values, one above the other.
+
+mod spreading;
+mod writing;
+
+ghost use Rattle.std.specs.Prelude.{◌≡◌, ◌≤◌, ◌<◌, ◌+◌, ◌-◌, ◌++◌, ◌∷◌, [], IfOk, OnOk, Some};
+ghost use Rattle.std.specs.Prelude.{drop, length, slice_get, suc, take};
+ghost use Rattle.rx_term.specs.Steps.{Keeps};
+ghost use Rattle.rx_term.specs.Walks.{AllHeld};
+ghost use Rattle.rec_sorts.specs.Lookup.{symbols};
+ghost use Rattle.rec_sorts.specs.Numbering.{arity_of};
+ghost use Rattle.rec_engine.specs.Engine.{SameEngine};
+ghost use Rattle.rec_engine.specs.Inner.Made.{IsApplied};
+ghost use Rattle.rec_trace.specs.Inner.Turns.{IsGroundRow};
+ghost use Rattle.rec_engine.specs.Lent.{IsAppliedOn};
+ghost use Rattle.rec_trace.specs.Rows.{Lowers};
+ghost use Rattle.rec_sorts.specs.Laws.{Every};
+ghost use Rattle.rec_syntax.specs.Syntax.{Spec};
+
+use rec_engine::{Engine, EngineFault};
+use rec_sorts::{Letter, Meaning};
+use rx_term::{Term, TermBank};
+use std::alloc::Global;
+
+/// What comes next.
+#[derive(Clone, Copy, Drop)]
+pub(crate) enum Step {
+    /// A value goes on top.
+    Give(Term),
+    /// The same, and the tree at this place goes, whose parts were given until now.
+    GiveLast { value: Term, at: usize },
+    /// A symbol is called on the values on top.
+    Invoke { symbol: u32, count: u32 },
+}
+
+/// Steps, the next one last, and values, the top last. Some trees among the values are none: their
+/// parts are given, and they go with the last of these.
+#[derive(Drop)]
+pub(crate) struct Row {
+    pub(crate) steps: Vec<Step>,
+    pub(crate) values: Vec<Term>,
+    /// So many of the lowest values have stayed since this was last set.
+    pub(crate) low: usize,
+}
+
+/// The steps of a ground term's letters, the next one last.
+pub(crate) fn ground_steps(alloc: Global, letters: &[Letter]) -> Result<Vec<Step>, EngineFault>
+    requires { (y : Spec) × Every (IsApplied y) letters.now }
+    ensures { IfOk result (λ steps. (y : Spec) → Every (IsApplied y) letters.now
+        → IsGroundRow y steps.items letters.now) }
+{
+    let mut steps = Vec::new(alloc);
+    let mut at = letters.len();
+    'letters: while at > 0 {
+        at -= 1;
+        let letter = letters[at];
+        let Meaning::Symbol(symbol) = letter.meaning else {
+            unreachable!()
+        };
+        let step = Step::Invoke {
+            symbol,
+            count: letter.count,
+        };
+        match steps.push(step) {
+            Ok(()) => {}
+            Err(_) => return Err(EngineFault::Memory),
+        }
+    }
+    Ok(steps)
+}
+
+impl Row {
+    /// A row of steps over no value.
+    pub(crate) fn of_steps(alloc: Global, steps: Vec<Step>) -> Row
+        ensures steps { result.steps ≡ steps }
+        ensures values { result.values.items ≡ [] }
+        ensures low { result.low ≡ 0 }
+    {
+        Row {
+            steps,
+            values: Vec::new(alloc),
+            low: 0,
+        }
+    }
+
+    /// The value on top.
+    pub(crate) fn top(&self) -> Term
+        requires { 0 < length self.now.values.items }
+        ensures { slice_get self.now.values.items (length self.now.values.items - 1)
+            ≡ Some result }
+    {
+        self.values[self.values.len() - 1]
+    }
+
+    /// One step more, which is the next one.
+    pub(crate) fn push(&mut self, step: Step) -> Result<(), EngineFault>
+        ensures steps { OnOk result (self.new.steps.items ≡ self.old.steps.items ++ step ∷ []) }
+        ensures values { self.new.values ≡ self.old.values }
+        ensures low { self.new.low ≡ self.old.low }
+    {
+        match self.steps.push(step) {
+            Ok(()) => Ok(()),
+            Err(_) => Err(EngineFault::Memory),
+        }
+    }
+
+    /// A value goes on top.
+    pub(crate) fn give(&mut self, value: Term) -> Result<(), EngineFault>
+        ensures values { OnOk result
+            (self.new.values.items ≡ self.old.values.items ++ value ∷ []) }
+        ensures steps { self.new.steps ≡ self.old.steps }
+        ensures low { self.new.low ≡ self.old.low }
+    {
+        match self.values.push(value) {
+            Ok(()) => Ok(()),
+            Err(_) => Err(EngineFault::Memory),
+        }
+    }
+
+    /// So many of the lowest values stay.
+    fn lower(&mut self, count: usize)
+        ensures low { self.new.low ≤ self.old.low }
+        ensures most { self.new.low ≤ count }
+        ensures values { self.new.values ≡ self.old.values }
+        ensures steps { self.new.steps ≡ self.old.steps }
+    {
+        if count < self.low {
+            self.low = count;
+        }
+    }
+
+    /// A value goes on top, and what stands at a place goes.
+    pub(crate) fn give_last(&mut self, value: Term, at: usize) -> Result<(), EngineFault>
+        requires { at < length self.old.values.items }
+        ensures values { OnOk result (self.new.values.items ≡ take at self.old.values.items
+            ++ (drop (suc at) self.old.values.items ++ value ∷ [])) }
+        ensures steps { self.new.steps ≡ self.old.steps }
+        ensures low { OnOk result (Lowers self.old self.new) }
+    {
+        self.lower(at);
+        let _source = self.values.remove(at);
+        self.give(value)
+    }
+
+    /// So many of the lowest values are left.
+    pub(crate) fn cut(&mut self, count: usize)
+        requires { count ≤ length self.old.values.items }
+        ensures values { self.new.values.items ≡ take count self.old.values.items }
+        ensures steps { self.new.steps ≡ self.old.steps }
+        ensures low { Lowers self.old self.new }
+        ensures most { self.new.low ≤ count }
+    {
+        self.lower(count);
+        self.values.truncate(count);
+    }
+
+    /// The values on top, as many as a symbol takes, become its application.
+    pub(crate) fn apply<B: TermBank>(
+        &mut self,
+        engine: &mut Engine<B>,
+        symbol: u32,
+        count: u32,
+    ) -> Result<(), EngineFault>
+        requires held { AllHeld (B.store engine.old.bank) self.old.values.items }
+        requires symbol { symbol < length (symbols engine.old.spec) }
+        requires arity { arity_of engine.old.spec symbol ≡ count }
+        requires count { count ≤ length self.old.values.items }
+        ensures same { SameEngine engine.old engine.new }
+        ensures keeps { Keeps (B.store engine.old.bank) (B.store engine.new.bank)
+            (take (length self.old.values.items - count) self.old.values.items) }
+        ensures applied { IfOk result (λ u. IsAppliedOn engine.old.spec
+            (B.store engine.old.bank) (B.store engine.new.bank) symbol count
+            self.old.values.items self.new.values.items) }
+        ensures steps { self.new.steps ≡ self.old.steps }
+        ensures low { OnOk result (Lowers self.old self.new) }
+    {
+        let rest = self.values.len() - count as usize;
+        self.lower(rest);
+        engine.apply_on(&mut self.values, symbol, count)
+    }
+
+    /// A value takes the place of those from a place on.
+    pub(crate) fn replace(&mut self, at: usize, value: Term) -> Result<(), EngineFault>
+        requires { at ≤ length self.old.values.items }
+        ensures values { OnOk result
+            (self.new.values.items ≡ take at self.old.values.items ++ value ∷ []) }
+        ensures steps { self.new.steps ≡ self.old.steps }
+        ensures low { OnOk result (Lowers self.old self.new) }
+    {
+        self.cut(at);
+        self.give(value)
+    }
+}

@@ -1,0 +1,136 @@
+//! The list that a tracer keeps in a bank, so that the engine's calls keep its values.
+
+ghost use Rattle.std.specs.Prelude.{◌≡◌, ◌≤◌, ◌<◌, [], IfOk, IsSome, OnErr, OnOk, length};
+ghost use Rattle.rx_term.specs.Store.{tree_at};
+ghost use Rattle.rx_term.specs.Walks.{AllHeld};
+ghost use Rattle.rx_term.specs.declared.Term.{Term as Reference};
+ghost use Rattle.rec_engine.specs.Engine.{SameEngine};
+ghost use Rattle.rec_trace.specs.Lists.{IsKept, IsSaved, Stays, listed};
+ghost use Rattle.rec_trace.specs.Lists.{protected_instead};
+ghost use Rattle.rec_trace.specs.Inner.Saving.{AreSaved, Lengthens, Saves, Shortens};
+
+use crate::row::Row;
+use rec_engine::{Engine, EngineFault};
+use rx_term::{Term, TermBank};
+
+/// A protected list of values, the lowest one last, and how many they are.
+#[derive(Drop)]
+pub(crate) struct Saved {
+    pub(crate) list: Term,
+    pub(crate) count: usize,
+}
+
+/// A reference is protected once more, and then another one once less.
+fn protect_instead<B: TermBank>(
+    engine: &mut Engine<B>,
+    old: Term,
+    new: Term,
+) -> Result<(), EngineFault>
+    requires new { IsSome (tree_at (B.store engine.old.bank) new) }
+    requires old { 0 < (B.store engine.old.bank).roots old.0 }
+    ensures same { SameEngine engine.old engine.new }
+    ensures ok { OnOk result
+        (B.store engine.new.bank ≡ protected_instead (B.store engine.old.bank) old new) }
+    ensures err { OnErr result (B.store engine.new.bank ≡ B.store engine.old.bank) }
+{
+    match engine.protect(new) {
+        Ok(()) => {
+            engine.unprotect(old);
+            Ok(())
+        }
+        Err(_) => Err(EngineFault::Memory),
+    }
+}
+
+impl Saved {
+    /// No value is saved.
+    pub(crate) fn none<B: TermBank>(engine: &mut Engine<B>) -> Result<Saved, EngineFault>
+        ensures same { SameEngine engine.old engine.new }
+        ensures kept { IfOk result (λ s. IsKept (B.store engine.new.bank) s.list) }
+        ensures none { IfOk result (λ s. listed (B.store engine.new.bank) s.list ≡ []) }
+        ensures count { IfOk result (λ s. s.count ≡ 0) }
+    {
+        let list = engine.nil()?;
+        match engine.protect(list) {
+            Ok(()) => Ok(Saved { list, count: 0 }),
+            Err(_) => Err(EngineFault::Memory),
+        }
+    }
+
+    /// So many of the values that were saved last are forgotten that this many are left.
+    fn shorten<B: TermBank>(
+        &mut self,
+        engine: &mut Engine<B>,
+        count: usize,
+    ) -> Result<(), EngineFault>
+        requires kept { IsKept (B.store engine.old.bank) self.old.list }
+        requires counted { length (listed (B.store engine.old.bank) self.old.list)
+            ≡ self.old.count }
+        ensures same { SameEngine engine.old engine.new }
+        ensures stays { Stays (B.store engine.old.bank) (B.store engine.new.bank) self.old.list
+            self.new.list }
+        ensures trees { (t : Reference) → tree_at (B.store engine.new.bank) t
+            ≡ tree_at (B.store engine.old.bank) t }
+        ensures shortens { OnOk result (Shortens (B.store engine.old.bank)
+            (B.store engine.new.bank) self.old self.new count) }
+    {
+        let mut list = self.list;
+        let mut left = self.count;
+        'stale: while left > count {
+            list = engine.bank().tail(list);
+            left -= 1;
+        }
+        protect_instead(engine, self.list, list)?;
+        self.list = list;
+        self.count = left;
+        Ok(())
+    }
+
+    /// Values are saved above those that are, until this many are.
+    fn lengthen<B: TermBank>(
+        &mut self,
+        engine: &mut Engine<B>,
+        values: &mut Vec<Term>,
+        count: usize,
+    ) -> Result<(), EngineFault>
+        requires kept { IsKept (B.store engine.old.bank) self.old.list }
+        requires held { AllHeld (B.store engine.old.bank) values.old.items }
+        requires saved { AreSaved (B.store engine.old.bank) values.old.items self.old }
+        requires count { count ≤ length values.old.items }
+        ensures same { SameEngine engine.old engine.new }
+        ensures stays { Stays (B.store engine.old.bank) (B.store engine.new.bank) self.old.list
+            self.new.list }
+        ensures lengthens { OnOk result (Lengthens (B.store engine.old.bank)
+            (B.store engine.new.bank) values.old.items values.new.items self.new count) }
+    {
+        'values: while self.count < count {
+            let list = engine.hold_on(values, self.count, self.list)?;
+            protect_instead(engine, self.list, list)?;
+            self.list = list;
+            self.count += 1;
+        }
+        Ok(())
+    }
+
+    /// So many of a row's lowest values are parts of the list from now on.
+    pub(crate) fn save<B: TermBank>(
+        &mut self,
+        engine: &mut Engine<B>,
+        row: &mut Row,
+        count: usize,
+    ) -> Result<(), EngineFault>
+        requires saved { IsSaved (B.store engine.old.bank) row.old self.old }
+        requires held { AllHeld (B.store engine.old.bank) row.old.values.items }
+        requires count { count ≤ length row.old.values.items }
+        ensures same { SameEngine engine.old engine.new }
+        ensures stays { Stays (B.store engine.old.bank) (B.store engine.new.bank) self.old.list
+            self.new.list }
+        ensures saves { OnOk result (Saves (B.store engine.old.bank) (B.store engine.new.bank)
+            row.old row.new self.new count) }
+    {
+        self.shorten(engine, row.low)?;
+        self.lengthen(engine, &mut row.values, count)?;
+        row.low = self.count;
+        Ok(())
+    }
+}

@@ -1,0 +1,143 @@
+//! Steps in which symbols are called: sides of conditions are evaluated.
+
+ghost use Rattle.std.specs.Prelude.{◌≡◌, ◌≤◌, ◌+◌, ◌-◌, ◌∷◌, None, IfOk, OnOk, length, reverse};
+ghost use Rattle.std.specs.Prelude.{take, true, vec_len};
+ghost use Rattle.rx_term.specs.Walks.{held_tree};
+ghost use Rattle.rec_syntax.specs.Syntax.{Rule};
+ghost use Rattle.rec_sorts.specs.Binding.{Substitution};
+ghost use Rattle.rec_sorts.specs.Evaluation.{Call, evaluate};
+ghost use Rattle.rec_sorts.specs.Numbering.{name_of};
+ghost use Rattle.rec_sorts.specs.SpecRules.{fault};
+ghost use Rattle.rec_sorts.specs.declared.letters.Meaning.TheVariants.{Symbol};
+ghost use Rattle.rec_engine.specs.Engine.{SameEngine};
+ghost use Rattle.rec_trace.specs.Inner.Sides.{IsMatch, side_of};
+ghost use Rattle.rec_trace.specs.Inner.Turns.{CanTake, CanTurn, HasCalled, HasRun, Turns};
+ghost use Rattle.rec_trace.specs.Lists.{IsSaved, Stays};
+ghost use Rattle.rec_trace.specs.Rows.{AreInRow};
+ghost use Rattle.rec_trace.specs.States.{Fits};
+ghost use Rattle.rec_trace.specs.Tracing.{Gives, IsInOrder, moves_at, stack_at};
+ghost use Rattle.rec_trace.specs.declared.row.Step.TheVariants as step;
+
+use crate::row::Step;
+use crate::sides::Side;
+use crate::tracer::Tracer;
+use rec_engine::{Engine, EngineFault, Outcome};
+use rx_term::{Term, TermBank};
+
+impl Tracer {
+    /// A symbol is called on the values on top, which its value replaces: no, where more steps are
+    /// needed than are left.
+    fn evaluate<B: TermBank>(
+        &mut self,
+        engine: &mut Engine<B>,
+        symbol: u32,
+        count: u32,
+    ) -> Result<bool, EngineFault>
+        requires good { fault engine.old.spec ≡ None }
+        requires row { AreInRow engine.old.spec (B.store engine.old.bank)
+            (step.Invoke symbol count ∷ reverse self.old.row.steps.items)
+            self.old.row.values.items }
+        requires saved { IsSaved (B.store engine.old.bank) self.old.row self.old.saved }
+        ensures same { SameEngine engine.old engine.new }
+        ensures stays { Stays (B.store engine.old.bank) (B.store engine.new.bank)
+            self.old.saved.list self.new.saved.list }
+        ensures steps { OnOk result (self.new.row.steps ≡ self.old.row.steps) }
+        ensures comes { IfOk result (λ more. HasCalled engine.old.spec (B.store engine.old.bank)
+            (B.store engine.new.bank) self.old self.new
+            (name_of engine.old.spec (Symbol symbol)) count more) }
+    {
+        let at = self.row.values.len() - count as usize;
+        self.saved.save(engine, &mut self.row, at)?;
+        let values = &self.row.values[at..];
+        match engine.call(self.saved.list, symbol, values, self.left)? {
+            Outcome::Limit => Ok(false),
+            Outcome::Value { term, steps } => {
+                self.row.replace(at, term)?;
+                self.left -= steps;
+                Ok(true)
+            }
+        }
+    }
+
+    /// The next step of a row: no, where more steps are needed than are left.
+    fn turn<B: TermBank>(&mut self, engine: &mut Engine<B>) -> Result<bool, EngineFault>
+        requires order { IsInOrder engine.old.spec (B.store engine.old.bank) self.old }
+        requires fits { CanTurn (moves_at engine.old.spec (B.store engine.old.bank) self.old)
+            (length (stack_at (B.store engine.old.bank) self.old)) }
+        ensures same { SameEngine engine.old engine.new }
+        ensures stays { Stays (B.store engine.old.bank) (B.store engine.new.bank)
+            self.old.saved.list self.new.saved.list }
+        ensures steps { OnOk result (self.new.row.steps.items
+            ≡ take (length self.old.row.steps.items - 1) self.old.row.steps.items) }
+        ensures turns { IfOk result (λ more. Turns (Call engine.old.spec) engine.old.spec
+            (B.store engine.old.bank) (B.store engine.new.bank) self.old self.new more) }
+    {
+        let Some(step) = self.row.steps.pop() else {
+            unreachable!()
+        };
+        match step {
+            Step::Give(value) => {
+                self.row.give(value)?;
+                Ok(true)
+            }
+            Step::GiveLast { value, at } => {
+                self.row.give_last(value, at)?;
+                Ok(true)
+            }
+            Step::Invoke { symbol, count } => self.evaluate(engine, symbol, count),
+        }
+    }
+
+    /// The steps above some are gone through: no, where more steps are needed than are left.
+    fn run<B: TermBank>(
+        &mut self,
+        engine: &mut Engine<B>,
+        floor: usize,
+    ) -> Result<bool, EngineFault>
+        requires order { IsInOrder engine.old.spec (B.store engine.old.bank) self.old }
+        requires floor { floor ≤ vec_len self.old.row.steps }
+        requires fits { Fits (take (vec_len self.old.row.steps - floor)
+            (moves_at engine.old.spec (B.store engine.old.bank) self.old)) 0 1 }
+        ensures same { SameEngine engine.old engine.new }
+        ensures stays { Stays (B.store engine.old.bank) (B.store engine.new.bank)
+            self.old.saved.list self.new.saved.list }
+        ensures gives { IfOk result (λ more. HasRun (Call engine.old.spec) engine.old.spec
+            (B.store engine.old.bank) (B.store engine.new.bank) self.old self.new
+            (vec_len self.old.row.steps - floor) more) }
+        ensures steps { IfOk result (λ more. more ≡ true
+            → self.new.row.steps.items ≡ take floor self.old.row.steps.items) }
+    {
+        'steps: while self.row.steps.len() > floor {
+            if !self.turn(engine)? {
+                return Ok(false);
+            }
+        }
+        Ok(true)
+    }
+
+    /// A side of a rule that matches a tree is evaluated: its value comes on top. No, where more
+    /// steps are needed than are left.
+    pub(super) fn side<B: TermBank>(
+        &mut self,
+        engine: &mut Engine<B>,
+        rule: u32,
+        side: Side,
+        redex: Term,
+    ) -> Result<bool, EngineFault>
+        requires order { IsInOrder engine.old.spec (B.store engine.old.bank) self.old }
+        requires can { CanTake engine.old.spec (B.store engine.old.bank) rule side redex }
+        ensures same { SameEngine engine.old engine.new }
+        ensures stays { Stays (B.store engine.old.bank) (B.store engine.new.bank)
+            self.old.saved.list self.new.saved.list }
+        ensures gives { IfOk result (λ more. (r : Rule) (s : Substitution)
+            → IsMatch engine.old.spec rule (held_tree (B.store engine.old.bank) redex) r s
+            → Gives engine.old.spec (B.store engine.old.bank) (B.store engine.new.bank) self.old
+            self.new (evaluate (Call engine.old.spec) self.old.left s (side_of r side)) more) }
+    {
+        let floor = self.row.steps.len();
+        self.row.give(redex)?;
+        let _same = self.next_rule(engine, rule)?;
+        self.row.spread(engine, rule, side, &self.bind)?;
+        self.run(engine, floor)
+    }
+}
