@@ -11,7 +11,6 @@ ghost use Rattle.rec_engine.specs.Lent.{IsAppliedOn};
 
 use crate::cells::{EngineFault, Node};
 use crate::machine::Machine;
-use crate::work::push;
 use rx_term::{Term, TermBank};
 
 impl<B: TermBank> Machine<B> {
@@ -47,13 +46,18 @@ impl<B: TermBank> Machine<B> {
         ensures stays { StaysFor B.store (self.old.heap.work.items ++ list ∷ [])
             self.old self.new }
         ensures same { IfOk result (λ r. self.new.heap.work.items ≡ self.old.heap.work.items) }
+        ensures below { take (length self.old.heap.work.items) self.new.heap.work.items
+            ≡ self.old.heap.work.items }
         ensures exact { IfOk result (λ r. tree_at (B.store self.new.heap.bank) r ≡ longer
             (tree_at (B.store self.old.heap.bank) (get_or self.old.heap.work.items at list))
             (tree_at (B.store self.old.heap.bank) list)) }
         ensures room { RoomOnlyIn B.store self.new result }
     {
         let t = self.heap.work[at];
-        push(&mut self.heap.work, list)?;
+        match self.heap.work.push(list) {
+            Ok(()) => {}
+            Err(_) => return Err(EngineFault::Memory),
+        }
         let held = self.heap.make(Node::Cons(t, list))?;
         self.heap.work.take_last();
         Ok(held)

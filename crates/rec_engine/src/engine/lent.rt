@@ -60,6 +60,7 @@ impl<B: TermBank> Engine<B> {
         ensures keeps { Keeps (B.store self.old.bank) (B.store self.new.bank)
             (stack.old.items ++ list ∷ []) }
         ensures stack { IfOk result (λ r. stack.new.items ≡ stack.old.items) }
+        ensures below { take (length stack.old.items) stack.new.items ≡ stack.old.items }
         ensures held { IfOk result (λ r. tree_at (B.store self.new.bank) r ≡ longer
             (tree_at (B.store self.old.bank) (get_or stack.old.items at list))
             (tree_at (B.store self.old.bank) list)) }
