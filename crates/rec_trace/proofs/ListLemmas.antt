@@ -1,6 +1,6 @@
 -- A list in a bank, what protects it, and what others protect.
 use Rattle.std.proofs.Common.{◌+◌, ◌-◌, ◌<◌, ◌≤◌, ℕ, arith, refl, sym, ap, subst, ◌∙◌, length, drop, get_or}
-use Rattle.std.specs.Prelude.{◌≡◌, ◌==◌, List, [], ◌∷◌, OnOk, Option, Some, Ok}
+use Rattle.std.specs.Prelude.{◌≡◌, ◌==◌, List, [], ◌∷◌, OnErr, OnOk, Option, Some, Ok}
 use Rattle.std.specs.Prelude.{Err, Result, IsSome, is_some, if◌then◌else◌, unwrap_or}
 use Rattle.std.specs.Option.{option_and_then}
 use Rattle.std.proofs.lemmas.Bool.Decides.{nat_tests}
@@ -118,6 +118,11 @@ moved-tree w w' a b r e = ap (λ x. tree_at x r) e
 pub on-ok : {A E : Type 0} {P Q : Type 0} (r : Result A E) → (P → Q) → OnOk r P → OnOk r Q
 on-ok (Ok a) f p = f p
 on-ok (Err e) f p = tt
+
+-- a fact that holds anyway
+pub on-err : {A E : Type 0} {P : Type 0} (r : Result A E) → P → OnErr r P
+on-err (Ok a) p = tt
+on-err (Err e) p = p
 
 -- the empty list is protected
 pub empty-kept : (w w1 : Store) (nil : Term) → tree_at w nil ≡ Some (list_of none) → w1 ≡ with_count w nil (w.roots nil.0 + 1)

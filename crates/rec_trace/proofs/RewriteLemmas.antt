@@ -1,7 +1,6 @@
 -- What a redex becomes, and the whole term: rows that are written down apart from a tracer's own one.
-use Rattle.std.proofs.Common.{◌+◌, ◌<◌, ◌-◌, ℕ, ap, append-nil, arith, get_or, length, subst, sym, take, take_all, take_at, ◌∙◌}
-use Rattle.std.proofs.lemmas.List.{length-append}
-use Rattle.std.proofs.lemmas.List.Elements.{Contains-append_left, Contains-push}
+use Rattle.std.proofs.Common.{◌<◌, ◌-◌, ◌≤◌, refl, ℕ, ap, append-nil, arith, get_or, length, subst, sym, take, take_all, take_at, ◌∙◌}
+use Rattle.std.proofs.lemmas.List.Elements.{Contains-push}
 use Rattle.std.specs.Prelude.{◌≡◌, List, [], ◌∷◌, ◌++◌, Contains, Err, IfOk, Ok, Option, Result, Some, Vec, is_some, reverse, unwrap_or}
 use Rattle.std.specs.declared.alloc.Global.{Global}
 use Rattle.rx_term.specs.Tree.{Tree, list_of, none}
@@ -13,11 +12,11 @@ use Rattle.rx_term.proofs.WalkLemmas.{AllHeld-push, AllHeld-take}
 use Rattle.rec_syntax.specs.Syntax.{Rule, Spec}
 use Rattle.rec_sorts.specs.Binding.{Substitution}
 use Rattle.rec_match.specs.Next.{IsAnswer}
-use Rattle.rec_trace.specs.Inner.Saving.{Saves}
+use Rattle.rec_trace.specs.Inner.Saving.{HasAll, Leaves}
 use Rattle.rec_trace.specs.Inner.Sides.{HasSide, HasValues, IsMatch, side_of}
 use Rattle.rec_trace.specs.Inner.Spreading.{CanSpread, HasSpread, top_of}
 use Rattle.rec_trace.specs.Lists.{IsSaved, Stays}
-use Rattle.rec_trace.specs.Rows.{AreInRow, IsRow, KeepsParts, Lowers, floor_of, moves_in, moves_of, stack_in, stacked}
+use Rattle.rec_trace.specs.Rows.{AreInRow, IsRow, KeepsParts, floor_of, moves_in, moves_of, stack_in, stacked}
 use Rattle.rec_trace.specs.States.{Fits, ahead, moves, written}
 use Rattle.rec_trace.specs.Tracing.{Rewrites, Stands, moves_at, rest_of, stack_at, whole_of}
 use Rattle.rec_trace.specs.declared.row.Row.{Row}
@@ -29,18 +28,13 @@ use Rattle.rec_trace.proofs.ListLemmas.{stays-kept, stays-trans}
 use Rattle.rec_trace.proofs.PushLemmas.{has-values}
 use Rattle.rec_trace.proofs.RowLemmas.{row-stays}
 use Rattle.rec_trace.proofs.RunLemmas.{fits-one}
-use Rattle.rec_trace.proofs.SavedLemmas.{parts-both, parts-fewer, same-tree, saved-keeps, saved-lowers, saved-stays, still-all-held}
+use Rattle.rec_trace.proofs.SavedLemmas.{in-take, list-keeps, parts-both, parts-fewer, parts-same, same-tree, saved-lowers, saved-stays, still-all-held}
 use Rattle.rec_trace.proofs.StateLemmas.{written-moves}
 
 -- a fact of an answer follows from another one, at each answer
 pub if-ok : {A E : Type 0} {P Q : A → Type 0} (r : Result A E) → ((a : A) → P a → Q a) → IfOk r P → IfOk r Q
 if-ok (Ok a) f p = f a p
 if-ok (Err e) f p = tt
-
--- a fact that does not speak of the answer
-pub if-always : {A E : Type 0} {P : Type 0} (r : Result A E) → P → IfOk r (λ a. P)
-if-always (Ok a) p = p
-if-always (Err e) p = tt
 
 held-as : (w : Store) (t : Reference) (u : Tree) → tree_at w t ≡ Some u → held_tree w t ≡ u
 held-as w t u e = ap (λ (o : Option Tree). unwrap_or o (list_of none)) e
@@ -147,75 +141,64 @@ stands-still y w w' old new s steps values keeps saved left =
 pub stays-called : (w w1 w2 : Store) (a b : Reference) (work : List Reference) → Stays w w1 a b → Keeps w1 w2 work → Stays w w2 a b
 stays-called w w1 w2 a b work stays keeps = stays-trans stays (stays-kept w1 w2 work b stays.kept keeps)
 
--- all of a row's values were saved, and then the engine was called
-pub record AreKeptAll (w w1 w2 : Store) (old : Row) : Type 0 where
-  pub first : AllHeld w1 old.values.items
-  pub parts : KeepsParts w w2 old.values.items
-
-pub all-kept : (w w1 w2 : Store) (old new : Row) (s : Saved) (work : List Reference) → AllHeld w old.values.items
-    → Saves w w1 old new s (length old.values.items) → Keeps w1 w2 work → AreKeptAll w w1 w2 old
-all-kept w w1 w2 old new s work held saves keeps =
-    let first = still-all-held w w1 old.values.items held saves.parts in
-    let n = length old.values.items in
-    let later : KeepsParts w1 w2 (take n new.values.items) = saved-keeps w1 w2 new s n work saves.saved
-    (subst (λ vs. AllHeld w1 vs) (sym saves.values) first) saves.enough keeps in
-    record {
-      first = first;
-      parts = parts-both w w1 w2 old.values.items held saves.parts
-          (subst (λ vs. KeepsParts w1 w2 vs) (ap (take n) saves.values ∙ take_all n old.values.items (omega arith)) later);
-    }
-
--- ---- a redex was saved on top of all values
+-- ---- a redex on top of all values
 
 module _ (w : Store) (old above : Row) (redex : Reference) (u : Tree) (held : AllHeld w old.values.items) (redex_at : tree_at w redex ≡ Some u)
     (values : above.values.items ≡ old.values.items ++ redex ∷ []) where
   pub above-held : AllHeld w above.values.items
   above-held = subst (λ vs. AllHeld w vs) (sym values) (AllHeld-push w old.values.items redex held (ap is_some redex_at))
 
-  above-long : length above.values.items ≡ length old.values.items + 1
-  above-long = ap length values ∙ length-append old.values.items (redex ∷ [])
-
   pub above-redex : (w' : Store) → KeepsParts w w' above.values.items → tree_at w' redex ≡ tree_at w redex
   above-redex w' keeps = same-tree w w' above.values.items redex (ap is_some redex_at) keeps
       (subst (λ vs. Contains vs redex) (sym values) (Contains-push old.values.items redex))
 
-  module _ (w1 w2 : Store) (n : ℕ) (many : n ≡ length old.values.items) (more under : Row) (s : Saved) (work : List Reference)
-      (saves : Saves w w1 above more s (n + 1)) (cut : under.values.items ≡ take n more.values.items) (lowers : Lowers more under)
-      (keeps : Keeps w1 w2 work) where
-    all : AreKeptAll w w1 w2 above
-    all = all-kept w w1 w2 above more s work above-held
-        (subst (λ k. Saves w w1 above more s k) (let z : n + 1 ≡ length above.values.items = omega (arith, above-long, many) in z) saves) keeps
+  pub under-redex : (n : ℕ) → n ≡ length old.values.items → take n above.values.items ≡ old.values.items
+  under-redex n many = ap (take n) values ∙ take_at old.values.items (redex ∷ []) n (sym many)
 
-    pub under-values : under.values.items ≡ old.values.items
-    under-values = cut ∙ ap (take n) (saves.values ∙ values) ∙ take_at old.values.items (redex ∷ []) n (sym many)
+-- ---- all values of a row were saved, and the lowest are left
 
-    pub under-parts : KeepsParts w w2 old.values.items
-    under-parts = parts-fewer w w2 above.values.items old.values.items
-        (λ t c. subst (λ vs. Contains vs t) (sym values) (Contains-append_left old.values.items (redex ∷ []) t c)) all.parts
+module _ (w w1 : Store) (above under : Row) (s : Saved) (n : ℕ) (leaves : Leaves w w1 above under s n) where
+  -- an engine's call follows
+  module _ (w2 : Store) (work : List Reference) (held : AllHeld w above.values.items) (all : HasAll w1 s.list above.values.items) (keeps : Keeps w1 w2 work)
+    where
+      pub called-parts : KeepsParts w w2 above.values.items
+      called-parts = parts-both w w1 w2 above.values.items held leaves.parts
+          (list-keeps w1 w2 above.values.items s.list work leaves.saved.kept all keeps)
 
-    pub under-redex : tree_at w2 redex ≡ tree_at w redex
-    under-redex = above-redex w2 all.parts
+      pub called-saved : IsSaved w2 under s
+      called-saved = saved-stays w1 w2 under s work leaves.saved
+          (subst (λ vs. AllHeld w1 vs) (sym leaves.values)
+          (AllHeld-take w1 above.values.items n (still-all-held w w1 above.values.items held leaves.parts))) keeps
 
-    pub under-saved : IsSaved w2 under s
-    under-saved = saved-stays w1 w2 under s work (saved-lowers w1 more under s saves.saved lowers)
-        (subst (λ vs. AllHeld w1 vs) (sym cut) (AllHeld-take w1 more.values.items n (subst (λ vs. AllHeld w1 vs) (sym saves.values) all.first))) keeps
+  module _ (y : Spec) (old new : Tracer) (stands : Stands y w old) (steps : above.steps ≡ old.row.steps)
+      (values : take n above.values.items ≡ old.row.values.items) (row_is : new.row ≡ under) (saved_is : new.saved ≡ s) (left : new.left ≡ old.left) where
+    still : (w2 : Store) → KeepsParts w w2 above.values.items → IsSaved w2 under s → StandsStill y w w2 old new
+    still w2 parts saved = stands-still y w w2 old new stands
+        (ap (λ (r : Row). r.steps.items) row_is ∙ ap (λ (v : Vec Step Global). v.items) (leaves.steps ∙ steps))
+        (ap (λ (r : Row). r.values.items) row_is ∙ leaves.values ∙ values)
+        (parts-fewer w w2 above.values.items old.row.values.items
+        (λ t c. in-take n above.values.items t (subst (λ vs. Contains vs t) (sym values) c)) parts)
+        (subst (λ r. IsSaved w2 r new.saved) (sym row_is) (subst (λ z. IsSaved w2 under z) (sym saved_is) saved)) left
 
--- and then it was written down what it becomes
-pub rewritten : (y : Spec) (w w1 w2 : Store) (old new : Tracer) (above more under : Row) (s : Saved) (redex : Reference) (u : Tree) (n : ℕ)
-    (work : List Reference) → Stands y w old → tree_at w redex ≡ Some u → above.values.items ≡ old.row.values.items ++ redex ∷ []
-    → above.steps ≡ old.row.steps → n ≡ length old.row.values.items → Saves w w1 above more s (n + 1) → under.values.items ≡ take n more.values.items
-    → under.steps ≡ more.steps → Lowers more under → Keeps w1 w2 work → new.row ≡ under → new.saved ≡ s → new.left ≡ old.left
-    → StandsStill y w w2 old new
-rewritten y w w1 w2 old new above more under s redex u n work stands redex_at values first many saves cut then lowers keeps row_is saved_is left =
-    let held = stands.order.row.held in
-    stands-still y w w2 old new stands
-    (ap (λ (r : Row). r.steps.items) row_is ∙ ap (λ (v : Vec Step Global). v.items) (then ∙ saves.steps ∙ first))
-    (ap (λ (r : Row). r.values.items) row_is
-    ∙ under-values w old.row above redex u held redex_at values w1 w2 n many more under s work saves cut lowers keeps)
-    (under-parts w old.row above redex u held redex_at values w1 w2 n many more under s work saves cut lowers keeps)
-    (subst (λ r. IsSaved w2 r new.saved) (sym row_is) (subst (λ z. IsSaved w2 under z) (sym saved_is)
-    (under-saved w old.row above redex u held redex_at values w1 w2 n many more under s work saves cut lowers keeps)))
-    left
+    -- nothing follows
+    pub still-left : StandsStill y w w1 old new
+    still-left = still w1 leaves.parts leaves.saved
+
+    pub still-called : (w2 : Store) (work : List Reference) → AllHeld w above.values.items → HasAll w1 s.list above.values.items → Keeps w1 w2 work
+        → StandsStill y w w2 old new
+    still-called w2 work held all keeps = still w2 (called-parts w2 work held all keeps) (called-saved w2 work held all keeps)
+
+-- where not even the redex was put on top
+pub still-refused : (y : Spec) (w : Store) (old new : Tracer) → Stands y w old → new.row.steps ≡ old.row.steps
+    → new.row.values.items ≡ old.row.values.items → new.row.low ≡ old.row.low → new.saved ≡ old.saved → new.left ≡ old.left
+    → StandsStill y w w old new
+still-refused y w old new stands steps values low saved_is left =
+    stands-still y w w old new stands (ap (λ (v : Vec Step Global). v.items) steps) values (parts-same w w old.row.values.items (λ t. refl))
+    (subst (λ s. IsSaved w new.row s) (sym saved_is) (saved-lowers w old.row new.row old.saved stands.order.saved (record {
+      low = omega (arith, low);
+      within = λ le. subst (λ vs. new.row.low ≤ length vs) (sym values) (omega (arith, le, low));
+      values = ap (take new.row.low) values;
+    }))) left
 
 -- ---- a copy of a row was written down
 
@@ -229,23 +212,22 @@ copied y w w1 old copy row steps values keeps =
       ap (λ xs. held_trees w1 (stacked (reverse xs) copy.values.items)) steps ∙ ap (λ vs. held_trees w1 (stacked ss vs)) values ∙ h.stack,
     )
 
-pub copy-written : (y : Spec) (w w1 : Store) (old : Tracer) (copy : Row) → Stands y w old → copy.steps.items ≡ old.row.steps.items
-    → copy.values.items ≡ old.row.values.items → KeepsParts w w1 old.row.values.items → IsWritten y w1 copy (whole_of y w old)
-copy-written y w w1 old copy stands steps values keeps =
-    let same = copied y w w1 old.row copy stands.order.row steps values keeps in
+-- where all values are left
+pub all-left : (t : Tracer) (n : ℕ) → n ≡ length t.row.values.items → take n t.row.values.items ≡ t.row.values.items
+all-left t n many = take_all n t.row.values.items (omega (arith, many))
+
+pub copy-written : (y : Spec) (w w1 : Store) (old : Tracer) (left copy : Row) (s : Saved) (n : ℕ) → Stands y w old → n ≡ length old.row.values.items
+    → Leaves w w1 old.row left s n → copy.steps.items ≡ left.steps.items → copy.values.items ≡ left.values.items
+    → IsWritten y w1 copy (whole_of y w old)
+copy-written y w w1 old left copy s n stands many leaves steps values =
+    let same = copied y w w1 old.row copy stands.order.row (steps ∙ ap (λ (v : Vec Step Global). v.items) leaves.steps)
+    (values ∙ leaves.values ∙ all-left old n many) leaves.parts in
     record {
       row = same.0;
       fits = subst (λ ms. Fits ms (length (stack_in w1 copy)) 1) (sym same.1)
           (subst (λ (st : List Tree). Fits (moves_at y w old) (length st) 1) (sym same.2) stands.fits);
       tree = ap (λ ms. written ms (stack_in w1 copy)) same.1 ∙ ap (written (moves_at y w old)) same.2;
     }
-
-pub still-after : (y : Spec) (w w1 w2 : Store) (old new : Tracer) (n : ℕ) (work : List Reference) → Stands y w old → n ≡ length old.row.values.items
-    → Saves w w1 old.row new.row new.saved n → Keeps w1 w2 work → new.left ≡ old.left → StandsStill y w w2 old new
-still-after y w w1 w2 old new n work stands many saves keeps left =
-    let all = all-kept w w1 w2 old.row new.row new.saved work stands.order.row.held (subst (λ k. Saves w w1 old.row new.row new.saved k) many saves) keeps in
-    stands-still y w w2 old new stands (ap (λ (v : Vec Step Global). v.items) saves.steps) saves.values all.parts
-    (saved-stays w1 w2 new.row new.saved work saves.saved (subst (λ vs. AllHeld w1 vs) (sym saves.values) all.first) keeps) left
 
 pub copy-answer : {E : Type 0} (y : Spec) (w1 w2 : Store) (copy : Row) (v : Tree) (r : Result Reference E) → IsWritten y w1 copy v
     → IfOk r (λ t. tree_at w2 t ≡ Some (written (moves_in y w1 copy) (stack_in w1 copy))) → IfOk r (λ t. tree_at w2 t ≡ Some v)

@@ -1,7 +1,7 @@
 -- The values that are in the list that a tracer keeps.
 use Rattle.std.proofs.Common.{◌+◌, ◌-◌, ◌<◌, ◌≤◌, ℕ, arith, refl, sym, ap, subst, ◌∙◌, inl, inr, length, drop, get_or, take, take-take, take_all, take_at}
 use Rattle.std.proofs.Common.{length-drop, take-append-drop}
-use Rattle.std.proofs.lemmas.List.{drop-drop, get_or-reverse, length-reverse, map-append, reverse-append, take-map, take_more}
+use Rattle.std.proofs.lemmas.List.{drop-drop, get_or-reverse, length-reverse, length-take, map-append, reverse-append, take-map, take_more}
 use Rattle.std.proofs.lemmas.List.Elements.{Contains-append_left}
 use Rattle.std.specs.Prelude.{◌≡◌, List, [], ◌∷◌, ◌++◌, Option, Some, Contains, IsSome, map, reverse, unwrap_or}
 use Rattle.rx_term.specs.Tree.{Tree, from_list, list_of, more, none}
@@ -15,7 +15,7 @@ use Rattle.rx_term.proofs.StoreLemmas.{some-value}
 use Rattle.rx_term.proofs.WalkLemmas.{AllHeld-at, AllHeld-first, AllHeld-rest, AllHeld-take}
 use Rattle.rec_trace.specs.Lists.{IsKept, IsList, IsSaved, Stays, listed, protected_instead}
 use Rattle.rec_trace.specs.Rows.{KeepsParts, Lowers}
-use Rattle.rec_trace.specs.Inner.Saving.{AreSaved, Lengthens, Saves, Shortens}
+use Rattle.rec_trace.specs.Inner.Saving.{AreSaved, HasAll, KeepsLowest, KeepsSaved, Leaves, Lengthens, Saves, Shortens}
 use Rattle.rec_trace.specs.declared.row.Row.{Row}
 use Rattle.rec_trace.specs.declared.saved.Saved.{Saved}
 use Rattle.rec_trace.proofs.ListLemmas.{is-list, items-are, kept-list, list-moved, longer-list, moved-tree, rooted, same-list}
@@ -30,7 +30,7 @@ in-map f (z ∷ xs) x c = elim (cons_cases z xs x c) [
   | inr d ↦ cons_tail (f z) (map f xs) (f x) (in-map f xs x d)
 ]
 
-in-take : {X : Type 0} (n : ℕ) (xs : List X) (x : X) → Contains (take n xs) x → Contains xs x
+pub in-take : {X : Type 0} (n : ℕ) (xs : List X) (x : X) → Contains (take n xs) x → Contains xs x
 in-take n xs x c = subst (λ zs. Contains zs x) (take-append-drop n xs) (Contains-append_left (take n xs) (drop n xs) x c)
 
 in-reverse : {X : Type 0} (xs : List X) (x : X) → Contains (reverse xs) x → Contains xs x
@@ -88,12 +88,14 @@ call-parts w w' vs us held keeps t r u c e part =
     let is : held_tree w r ≡ x.0 = ap (λ (o : Option Tree). unwrap_or o (list_of none)) x.1 in
     keeps.trees t u e (r, (x.0, inr (Contains-append_left vs us r c), x.1, subst (λ y. Contains (parts y) u) is part))
 
+items-in : (w : Store) (vs : List Term) (list : Term) (n : ℕ) → held_trees w vs ≡ take n (reverse (listed w list)) → HasAll w list vs
+items-in w vs list n same r c = in-reverse (listed w list) (held_tree w r)
+    (in-take n (reverse (listed w list)) (held_tree w r) (subst (λ us. Contains us (held_tree w r)) same (in-map (held_tree w) vs r c)))
+
 -- values that are items of a list that is kept keep their parts
-items-keep : (w w' : Store) (vs : List Term) (list : Term) (n : ℕ) (work : List Term) → IsKept w list
-    → held_trees w vs ≡ take n (reverse (listed w list)) → Keeps w w' work → KeepsParts w w' vs
-items-keep w w' vs list n work kept same keeps t r u c e part =
-    let item : Contains (listed w list) (held_tree w r) = in-reverse (listed w list) (held_tree w r)
-    (in-take n (reverse (listed w list)) (held_tree w r) (subst (λ us. Contains us (held_tree w r)) same (in-map (held_tree w) vs r c))) in
+pub list-keeps : (w w' : Store) (vs : List Term) (list : Term) (work : List Term) → IsKept w list → HasAll w list vs → Keeps w w' work
+    → KeepsParts w w' vs
+list-keeps w w' vs list work kept all keeps t r u c e part =
     let whole = list_of (from_list (listed w list)) in
     keeps.trees t u e (
       list,
@@ -101,9 +103,13 @@ items-keep w w' vs list n work kept same keeps t r u c e part =
         whole,
         inl (rooted w list kept),
         kept.list,
-        parts-trans whole (held_tree w r) u (in-list (listed w list) (held_tree w r) item) part,
+        parts-trans whole (held_tree w r) u (in-list (listed w list) (held_tree w r) (all r c)) part,
       ),
     )
+
+items-keep : (w w' : Store) (vs : List Term) (list : Term) (n : ℕ) (work : List Term) → IsKept w list
+    → held_trees w vs ≡ take n (reverse (listed w list)) → Keeps w w' work → KeepsParts w w' vs
+items-keep w w' vs list n work kept same keeps = list-keeps w w' vs list work kept (items-in w vs list n same) keeps
 
 -- ---- what is saved
 
@@ -249,6 +255,7 @@ pub record IsSaving (w0 w : Store) (old now : Saved) (vs0 vs : List Term) (count
   pub parts : KeepsParts w0 w vs0
   pub saved : AreSaved w vs now
   pub within : count ≤ length vs
+  pub enough : old.count ≤ now.count
 
 pub saving-first : (w : Store) (s : Saved) (vs : List Term) (count : ℕ) → IsKept w s.list → AllHeld w vs → AreSaved w vs s → count ≤ length vs
     → IsSaving w w s s vs vs count
@@ -260,6 +267,7 @@ saving-first w s vs count kept held saved le = record {
   parts = parts-same w w vs (λ t. refl);
   saved = saved;
   within = le;
+  enough = omega arith;
 }
 
 pub saving-next : (w0 w w1 w2 : Store) (old now : Saved) (vs0 vs vs' : List Term) (count : ℕ) (list : Term) → IsSaving w0 w old now vs0 vs count
@@ -284,9 +292,34 @@ saving-next w0 w w1 w2 old now vs0 vs vs' count list h lt keeps same made e =
       parts = parts-both w0 w w2 vs0 h.first h.parts (subst (λ us. KeepsParts w w2 us) h.values parts);
       saved = more-saved w w1 w2 vs now list now.list kept h.held h.saved low keeps made trees;
       within = h.within;
+      enough = (let enough = h.enough in omega (arith, enough));
     })
 
+-- and a call was refused
+pub saving-refused : (w0 w w1 : Store) (old now : Saved) (vs0 vs vs' : List Term) (count : ℕ) → IsSaving w0 w old now vs0 vs count
+    → Keeps w w1 (vs ++ now.list ∷ []) → take (length vs) vs' ≡ vs → KeepsLowest w0 w1 vs0 vs' old now
+saving-refused w0 w w1 old now vs0 vs vs' count h keeps below =
+    let parts : KeepsParts w w1 vs = call-parts w w1 vs (now.list ∷ []) h.held keeps in
+    let list : listed w1 now.list ≡ listed w now.list = kept-list w w1 (vs ++ now.list ∷ []) now.list h.stays.kept keeps in
+    let saved : AreSaved w1 vs now = record {
+      within = h.saved.within;
+      counted = ap length list ∙ h.saved.counted;
+      same = same-trees w w1 (take now.count vs) (AllHeld-take w vs now.count h.held)
+          (parts-fewer w w1 vs (take now.count vs) (λ t c. in-take now.count vs t c) parts) ∙ h.saved.same ∙ sym (ap reverse list);
+    } in
+    record {
+      values = ap (λ us. take (length us) vs') (sym h.values) ∙ below ∙ h.values;
+      parts = parts-both w0 w w1 vs0 h.first h.parts (subst (λ us. KeepsParts w w1 us) h.values parts);
+      saved = subst (λ us. AreSaved w1 us now) h.values saved;
+      enough = h.enough;
+    }
+
 -- ---- a row's values are saved
+
+longer-than : (n : ℕ) (xs ys : List Term) → length ys ≡ n → take n xs ≡ ys → n ≤ length xs
+longer-than n xs ys long e =
+    let some = ap length e in
+    omega (arith, some, long, length-take n xs)
 
 pub row-saved : (w w1 w2 : Store) (old new : Row) (s : Saved) (count : ℕ) → AllHeld w old.values.items
     → ((t : Term) → tree_at w1 t ≡ tree_at w t) → new.steps ≡ old.steps → new.low ≡ s.count → IsKept w2 s.list
@@ -309,3 +342,79 @@ row-saved w w1 w2 old new s count held trees steps low kept h =
       };
       enough = omega (arith, low, enough);
     }
+
+-- and so the row's values and steps stay
+pub row-kept : (w w2 : Store) (old new : Row) (s : Saved) (count : ℕ) → Saves w w2 old new s count → KeepsSaved w w2 old new s
+row-kept w w2 old new s count saves = record {
+  steps = saves.steps;
+  values = ap (take (length old.values.items)) saves.values ∙ take_all (length old.values.items) old.values.items (omega arith);
+  parts = saves.parts;
+  saved = saves.saved;
+}
+
+-- also where it was refused to forget some
+pub row-stays : (w w1 : Store) (r : Row) (old new : Saved) → IsSaved w r old → ((t : Term) → tree_at w1 t ≡ tree_at w t) → IsKept w1 new.list
+    → new ≡ old → KeepsSaved w w1 r r new
+row-stays w w1 r old new saved trees kept is =
+    let list : listed w1 old.list ≡ listed w old.list = (same-list w w1 old.list (trees old.list) saved.kept.list).1 in
+    let same : held_trees w1 (take r.low r.values.items) ≡ held_trees w (take r.low r.values.items) =
+    ap (λ (f : Term → Tree). map f (take r.low r.values.items)) (λ i t. unwrap_or (trees t i) (list_of none)) in
+    record {
+      steps = refl;
+      values = take_all (length r.values.items) r.values.items (omega arith);
+      parts = parts-same w w1 r.values.items trees;
+      saved = subst (λ s. IsSaved w1 r s) (sym is) (record {
+        kept = subst (λ s. IsKept w1 s.list) is kept;
+        counted = ap length list ∙ saved.counted;
+        low = saved.low;
+        within = saved.within;
+        same = same ∙ saved.same ∙ sym (ap (λ xs. take r.low (reverse xs)) list);
+      });
+    }
+
+-- and where it was refused to save more
+pub row-refused : (w w1 w2 : Store) (old new : Row) (first mid s : Saved) → AllHeld w old.values.items → IsSaved w old first
+    → ((t : Term) → tree_at w1 t ≡ tree_at w t) → Shortens w w1 first mid old.low → new.steps ≡ old.steps → new.low ≡ old.low → IsKept w2 s.list
+    → KeepsLowest w1 w2 old.values.items new.values.items mid s → KeepsSaved w w2 old new s
+row-refused w w1 w2 old new first mid s held saved trees shortens steps low kept h =
+    let vs = old.values.items in
+    let n = length vs in
+    let within = saved.within in
+    let lowest = saved.low in
+    let left = shortens.left in
+    let enough = h.enough in
+    let some : new.low ≤ s.count = omega (arith, low, lowest, left, enough) in
+    let long : n ≤ length new.values.items = longer-than n new.values.items vs refl h.values in
+    record {
+      steps = steps;
+      values = h.values;
+      parts = parts-both w w1 w2 vs held (parts-same w w1 vs trees) h.parts;
+      saved = record {
+        kept = kept;
+        counted = h.saved.counted;
+        low = some;
+        within = omega (arith, low, within, long);
+        same = ap (held_trees w2) (sym (take-take new.low n new.values.items (omega (arith, low, within))) ∙ ap (take new.low) h.values
+            ∙ sym (take-take new.low s.count vs some)) ∙ sym (take-map (held_tree w2) new.low (take s.count vs)) ∙ ap (take new.low) h.saved.same;
+      };
+    }
+
+-- ---- all of a row's values are saved, and the lowest are left
+
+pub row-left : (w w1 : Store) (old mid new : Row) (s : Saved) (count : ℕ) → count ≤ length old.values.items → KeepsSaved w w1 old mid s
+    → new.steps ≡ mid.steps → new.values.items ≡ take count mid.values.items → Lowers mid new → Leaves w w1 old new s count
+row-left w w1 old mid new s count le keeps steps values lowers = record {
+  steps = steps ∙ keeps.steps;
+  values = values ∙ sym (take-take count (length old.values.items) mid.values.items le) ∙ ap (take count) keeps.values;
+  parts = keeps.parts;
+  saved = saved-lowers w1 mid new s keeps.saved lowers;
+}
+
+pub all-saved : (w w1 : Store) (old mid : Row) (s : Saved) (n : ℕ) → n ≡ length old.values.items → Saves w w1 old mid s n
+    → HasAll w1 s.list old.values.items
+all-saved w w1 old mid s n many saves =
+    let enough = saves.enough in
+    let long = ap length saves.values in
+    let are : take mid.low mid.values.items ≡ old.values.items =
+    take_all mid.low mid.values.items (omega (arith, enough, many, long)) ∙ saves.values in
+    items-in w1 old.values.items s.list mid.low (ap (held_trees w1) (sym are) ∙ saves.saved.same)

@@ -3,8 +3,8 @@
 mod spreading;
 mod writing;
 
-ghost use Rattle.std.specs.Prelude.{◌≡◌, ◌≤◌, ◌<◌, ◌+◌, ◌-◌, ◌++◌, ◌∷◌, [], IfOk, OnOk, Some};
-ghost use Rattle.std.specs.Prelude.{drop, length, slice_get, suc, take};
+ghost use Rattle.std.specs.Prelude.{◌≡◌, ◌≤◌, ◌<◌, ◌+◌, ◌-◌, ◌++◌, ◌∷◌, [], IfOk, OnErr, OnOk};
+ghost use Rattle.std.specs.Prelude.{Some, drop, length, slice_get, suc, take};
 ghost use Rattle.rx_term.specs.Steps.{Keeps};
 ghost use Rattle.rx_term.specs.Walks.{AllHeld};
 ghost use Rattle.rec_sorts.specs.Lookup.{symbols};
@@ -108,6 +108,7 @@ impl Row {
     pub(crate) fn give(&mut self, value: Term) -> Result<(), EngineFault>
         ensures values { OnOk result
             (self.new.values.items ≡ self.old.values.items ++ value ∷ []) }
+        ensures same { OnErr result (self.new.values.items ≡ self.old.values.items) }
         ensures steps { self.new.steps ≡ self.old.steps }
         ensures low { self.new.low ≡ self.old.low }
     {

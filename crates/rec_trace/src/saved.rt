@@ -7,7 +7,8 @@ ghost use Rattle.rx_term.specs.declared.Term.{Term as Reference};
 ghost use Rattle.rec_engine.specs.Engine.{SameEngine};
 ghost use Rattle.rec_trace.specs.Lists.{IsKept, IsSaved, Stays, listed};
 ghost use Rattle.rec_trace.specs.Lists.{protected_instead};
-ghost use Rattle.rec_trace.specs.Inner.Saving.{AreSaved, Lengthens, Saves, Shortens};
+ghost use Rattle.rec_trace.specs.Inner.Saving.{AreSaved, HasAll, KeepsLowest, KeepsSaved, Leaves};
+ghost use Rattle.rec_trace.specs.Inner.Saving.{Lengthens, Saves, Shortens};
 
 use crate::row::Row;
 use rec_engine::{Engine, EngineFault};
@@ -73,6 +74,7 @@ impl Saved {
             ≡ tree_at (B.store engine.old.bank) t }
         ensures shortens { OnOk result (Shortens (B.store engine.old.bank)
             (B.store engine.new.bank) self.old self.new count) }
+        ensures refused { OnErr result (self.new ≡ self.old) }
     {
         let mut list = self.list;
         let mut left = self.count;
@@ -102,6 +104,8 @@ impl Saved {
             self.new.list }
         ensures lengthens { OnOk result (Lengthens (B.store engine.old.bank)
             (B.store engine.new.bank) values.old.items values.new.items self.new count) }
+        ensures refused { OnErr result (KeepsLowest (B.store engine.old.bank)
+            (B.store engine.new.bank) values.old.items values.new.items self.old self.new) }
     {
         'values: while self.count < count {
             let list = engine.hold_on(values, self.count, self.list)?;
@@ -127,10 +131,38 @@ impl Saved {
             self.new.list }
         ensures saves { OnOk result (Saves (B.store engine.old.bank) (B.store engine.new.bank)
             row.old row.new self.new count) }
+        ensures keeps { KeepsSaved (B.store engine.old.bank) (B.store engine.new.bank)
+            row.old row.new self.new }
+        ensures low { OnErr result (row.new.low ≡ row.old.low) }
     {
         self.shorten(engine, row.low)?;
         self.lengthen(engine, &mut row.values, count)?;
         row.low = self.count;
         Ok(())
+    }
+
+    /// All of a row's values are parts of the list from now on, and so many of the lowest ones are
+    /// left in the row: these also after a refused call.
+    pub(crate) fn save_all<B: TermBank>(
+        &mut self,
+        engine: &mut Engine<B>,
+        row: &mut Row,
+        count: usize,
+    ) -> Result<(), EngineFault>
+        requires saved { IsSaved (B.store engine.old.bank) row.old self.old }
+        requires held { AllHeld (B.store engine.old.bank) row.old.values.items }
+        requires count { count ≤ length row.old.values.items }
+        ensures same { SameEngine engine.old engine.new }
+        ensures stays { Stays (B.store engine.old.bank) (B.store engine.new.bank) self.old.list
+            self.new.list }
+        ensures leaves { Leaves (B.store engine.old.bank) (B.store engine.new.bank)
+            row.old row.new self.new count }
+        ensures all { OnOk result (HasAll (B.store engine.new.bank) self.new.list
+            row.old.values.items) }
+    {
+        let all = row.values.len();
+        let saved = self.save(engine, row, all);
+        row.cut(count);
+        saved
     }
 }

@@ -1,7 +1,7 @@
 -- The values that are in the list that a tracer keeps in a bank.
-use Rattle.std.specs.Prelude.{ℕ, ◌-◌, ◌≡◌, ◌≤◌, List, drop, length, reverse, take}
+use Rattle.std.specs.Prelude.{ℕ, ◌-◌, ◌≡◌, ◌≤◌, List, Contains, drop, length, reverse, take}
 use Rattle.rx_term.specs.Store.{Store}
-use Rattle.rx_term.specs.Walks.{AllHeld, held_trees}
+use Rattle.rx_term.specs.Walks.{AllHeld, held_tree, held_trees}
 use Rattle.rx_term.specs.declared.Term.{Term as Reference}
 use Rattle.rec_trace.specs.Lists.{IsSaved, listed}
 use Rattle.rec_trace.specs.Rows.{KeepsParts}
@@ -28,10 +28,36 @@ pub record Lengthens (w w' : Store) (old new : List Reference) (s : Saved) (coun
     pub saved : AreSaved w' new s
     pub enough : count ≤ s.count
 
--- the same of a row's values, whose steps stay
+-- values stay, perhaps below others, and no fewer of the lowest ones are in the list
+pub record KeepsLowest (w w' : Store) (old new : List Reference) (before after : Saved) : Type 0
+  where
+    pub values : take (length old) new ≡ old
+    pub parts : KeepsParts w w' old
+    pub saved : AreSaved w' old after
+    pub enough : before.count ≤ after.count
+
+-- so many of a row's values are in the list at least, and all stay, as its steps do
 pub record Saves (w w' : Store) (old new : Row) (s : Saved) (count : ℕ) : Type 0 where
   pub steps : new.steps ≡ old.steps
   pub values : new.values.items ≡ old.values.items
   pub parts : KeepsParts w w' old.values.items
   pub saved : IsSaved w' new s
   pub enough : count ≤ new.low
+
+-- a row's values stay, perhaps below others, and its steps
+pub record KeepsSaved (w w' : Store) (old new : Row) (s : Saved) : Type 0 where
+  pub steps : new.steps ≡ old.steps
+  pub values : take (length old.values.items) new.values.items ≡ old.values.items
+  pub parts : KeepsParts w w' old.values.items
+  pub saved : IsSaved w' new s
+
+-- so many of a row's lowest values are left, and all of them stay in the bank
+pub record Leaves (w w' : Store) (old new : Row) (s : Saved) (count : ℕ) : Type 0 where
+  pub steps : new.steps ≡ old.steps
+  pub values : new.values.items ≡ take count old.values.items
+  pub parts : KeepsParts w w' old.values.items
+  pub saved : IsSaved w' new s
+
+-- all values are items of a list
+abbrev pub HasAll : Store → Reference → List Reference → Type 0
+HasAll w list vs = (r : Reference) → Contains vs r → Contains (listed w list) (held_tree w r)

@@ -40,12 +40,11 @@ impl Tracer {
         ensures spares { Stays (B.store engine.old.bank) (B.store engine.new.bank)
             self.old.saved.list self.new.saved.list }
         ensures left { self.new.left ≡ self.old.left }
-        ensures stands { IfOk result (λ made. Stands engine.old.spec (B.store engine.new.bank)
-            self.new) }
-        ensures rest { IfOk result (λ made. rest_of engine.old.spec (B.store engine.new.bank)
-            self.new ≡ rest_of engine.old.spec (B.store engine.old.bank) self.old) }
-        ensures whole { IfOk result (λ made. whole_of engine.old.spec (B.store engine.new.bank)
-            self.new ≡ whole_of engine.old.spec (B.store engine.old.bank) self.old) }
+        ensures stands { Stands engine.old.spec (B.store engine.new.bank) self.new }
+        ensures rest { rest_of engine.old.spec (B.store engine.new.bank) self.new
+            ≡ rest_of engine.old.spec (B.store engine.old.bank) self.old }
+        ensures whole { whole_of engine.old.spec (B.store engine.new.bank) self.new
+            ≡ whole_of engine.old.spec (B.store engine.old.bank) self.old }
         ensures redex { IfOk result (λ made. tree_at (B.store engine.new.bank) made.redex
             ≡ tree_at (B.store engine.old.bank) redex) }
         ensures contractum { IfOk result (λ made. (u v : Tree)
@@ -55,8 +54,7 @@ impl Tracer {
         // the list keeps the redex, as it keeps all values
         let count = self.row.values.len();
         self.row.give(redex)?;
-        self.saved.save(engine, &mut self.row, count + 1)?;
-        self.row.cut(count);
+        self.saved.save_all(engine, &mut self.row, count)?;
         let contractum = self.write_contractum(alloc, engine, rule, redex)?;
         Ok(Rewrite { redex, contractum })
     }
@@ -105,15 +103,14 @@ impl Tracer {
         ensures spares { Stays (B.store engine.old.bank) (B.store engine.new.bank)
             self.old.saved.list self.new.saved.list }
         ensures left { self.new.left ≡ self.old.left }
-        ensures stands { IfOk result (λ t. Stands engine.old.spec (B.store engine.new.bank)
-            self.new) }
-        ensures rest { IfOk result (λ t. rest_of engine.old.spec (B.store engine.new.bank)
-            self.new ≡ rest_of engine.old.spec (B.store engine.old.bank) self.old) }
+        ensures stands { Stands engine.old.spec (B.store engine.new.bank) self.new }
+        ensures rest { rest_of engine.old.spec (B.store engine.new.bank) self.new
+            ≡ rest_of engine.old.spec (B.store engine.old.bank) self.old }
         ensures whole { IfOk result (λ t. tree_at (B.store engine.new.bank) t
             ≡ Some (whole_of engine.old.spec (B.store engine.old.bank) self.old)) }
     {
         let count = self.row.values.len();
-        self.saved.save(engine, &mut self.row, count)?;
+        self.saved.save_all(engine, &mut self.row, count)?;
         let mut copy = self.row.copy(alloc)?;
         copy.write(engine)
     }

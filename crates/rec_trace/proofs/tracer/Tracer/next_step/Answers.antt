@@ -26,7 +26,7 @@ returns-in_ok-redex-in-Fired-clause-turn g c =
     let made = c.in_ok-redex-in-Fired.ensures in
     let contractum = c.in_ok-redex-in-Fired.field-0.contractum in
     event-fired y w w1 w2 c.args.self.now b d c.in_ok-next_event.field-0 c.in-Fired.rule c.in-Fired.redex c.in_ok-redex-in-Fired.field-0.redex contractum
-    c.in-Fired.is c.in_ok-next_event.ensures.event c.rewrite.ensures.left (subst (λ (z : Spec). rest_of z w2 d ≡ rest_of z w1 b) same made.rest)
-    (subst (λ (z : Spec). whole_of z w2 d ≡ whole_of z w1 b) same made.whole) made.redex
+    c.in-Fired.is c.in_ok-next_event.ensures.event c.rewrite.ensures.left (subst (λ (z : Spec). rest_of z w2 d ≡ rest_of z w1 b) same c.rewrite.ensures.rest)
+    (subst (λ (z : Spec). whole_of z w2 d ≡ whole_of z w1 b) same c.rewrite.ensures.whole) made.redex
     (subst (λ (z : Spec). (u v : Tree) → tree_at w1 c.in-Fired.redex ≡ Some u → Rewrites z c.in-Fired.rule u v → tree_at w2 contractum ≡ Some v) same
     made.contractum)
