@@ -10,6 +10,7 @@ pub mod MachineLemmas
 pub mod TurnLemmas
 pub mod TriedRuleLemmas
 pub mod RuleMoveLemmas
+pub mod SettledLemmas
 pub mod BeginTurnLemmas
 pub mod FindTurnLemmas
 pub mod EndTurnLemmas
@@ -30,6 +31,8 @@ pub mod WriteLemmas
 pub mod KnownLemmas
 pub mod RuleLemmas
 pub mod CompiledLemmas
+pub mod StartedLemmas
+pub mod StartLemmas
 pub mod DirectLemmas
 pub mod MarkLemmas
 pub mod BuildTurnLemmas

@@ -2,8 +2,10 @@
 pub mod Answered
 pub mod Building
 pub mod Compiled
+pub mod Drafted
 pub mod Given
 pub mod Heap
 pub mod Made
 pub mod Pace
+pub mod Started
 pub mod Written

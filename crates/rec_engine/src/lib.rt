@@ -21,6 +21,7 @@ mod pace;
 mod parts;
 mod remembering;
 mod runs;
+mod starts;
 mod terms;
 mod watch;
 mod work;

@@ -17,7 +17,8 @@ finds-there w m k n at old new first (Err e) can ef runs same = tt
 finds-there w m k n at old new first (Ok None) can ef runs same =
     (trees-find w m k n at old (drop first old) [] None can (ap (λ j. drop j old) ef) runs, same refl)
 finds-there w m k n at old new first (Ok (Some hit)) can ef runs same =
-    (runs.0, trees-find w m k n at old (drop first old) (values_among m.forest first new hit.values) (Some hit.rule) can (ap (λ j. drop j old) ef) runs.1)
+    let values : List Term = values_among m.forest first new hit.values in
+    (runs.0, trees-find w m k n at old (drop first old) values (Some hit.rule) can (ap (λ j. drop j old) ef) runs.1, runs.2)
 
 pub run-finds : (w : Store) (m : Matcher) (k n at : ℕ) (old new : List Term) (first : ℕ) {E : Type 0} (r : Result (Option Hit) E)
     → CanFind w m k n at old → first ≡ length old - n → IfOk r (RunsOn w m.forest k at first old new) → IfOk r (λ found. found ≡ None → new ≡ old)

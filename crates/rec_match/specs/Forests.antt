@@ -287,10 +287,26 @@ StandAbove f first n work (InRegisters from to) = (n ≤ length work) × (from �
     × (to ≤ length f.places.items)
     × All (IsWithin first work) (slice_range f.places.items from to)
 
+-- a node tries a rule, whose values its places name where they are in registers
+abbrev pub AtPlaces : ℕ → ℕ → Values → Type 0
+AtPlaces from to (OnTop k) = Unit {0}
+AtPlaces from to (InRegisters first last) = (first ≡ from) × (last ≡ to)
+
+abbrev pub Tries : Node → Hit → Type 0
+Tries Fail found = ⊥
+Tries (Try rule from to next linear) found = (found.rule ≡ rule) × AtPlaces from to found.values
+Tries (Switch register low from span other) found = ⊥
+
+-- a rule was found by a forest's node
+abbrev pub IsFoundBy : Forest → Hit → Type 0
+IsFoundBy f found = (found.node < length f.nodes.items)
+    × Tries (get_or f.nodes.items found.node Fail) found
+
 -- what a run finds for the references from one on, and leaves on top
 abbrev pub RunsOn : Store → Forest → ℕ → ℕ → ℕ → List Term → List Term → Option Hit → Type 0
 RunsOn w f k least first old new (Some found) = StandAbove f first (length old) new found.values
     × Runs w f k least (drop first old) (values_among f first new found.values) (Some found.rule)
+    × IsFoundBy f found
 RunsOn w f k least first old new None = Runs w f k least (drop first old) [] None
 
 -- a tree can be walked for so many registers
@@ -319,6 +335,7 @@ WalksOn w f root least first old new (Some found) =
     StandAbove f first (length old) new found.values
     × Walks w f root least (drop first old) (values_among f first new found.values)
     (Some found.rule)
+    × IsFoundBy f found
 WalksOn w f root least first old new None = Walks w f root least (drop first old) [] None
 
 -- where a walk stands: what the root finds, the node finds

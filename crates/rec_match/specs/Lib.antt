@@ -8,4 +8,5 @@ pub mod Leaves
 pub mod Ordered
 pub mod Next
 pub mod Pushed
+pub mod Registers
 pub mod Inner

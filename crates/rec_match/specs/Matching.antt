@@ -15,7 +15,7 @@ use Rattle.rec_sorts.specs.Numbering.{named_all, name_of, named_by, IsMeaning, a
 use Rattle.rec_sorts.specs.Linked.{AreLinked}
 use Rattle.rec_sorts.specs.declared.letters.Letter.{Letter}
 use Rattle.rec_sorts.specs.declared.letters.Meaning.TheVariants.{Symbol, Variable}
-use Rattle.rec_match.specs.Forests.{IsForest, StandAbove, values_among}
+use Rattle.rec_match.specs.Forests.{IsForest, IsFoundBy, StandAbove, values_among}
 use Rattle.rec_match.specs.Ordered.{numbers_in}
 use Rattle.rec_match.specs.Rows.{values_of}
 use Rattle.rec_sorts.specs.SpecRules.{fault}
@@ -139,4 +139,5 @@ abbrev pub FindsOn : Store → Matcher → ℕ → ℕ → List Term → List Te
 FindsOn w m first at old new (Some found) =
     StandAbove m.forest first (length old) new found.values
     × FindsFor w m at old (values_among m.forest first new found.values) (Some found.rule)
+    × IsFoundBy m.forest found
 FindsOn w m first at old new None = FindsFor w m at old [] None × (new ≡ old)

@@ -1,12 +1,11 @@
 //! Which rule of a specification matches: the matching trees of its head say it.
 
-ghost use Rattle.std.specs.Prelude.{◌≡◌, ◌++◌, ◌-◌, IfOk, length, take};
+ghost use Rattle.std.specs.Prelude.{◌-◌, IfOk, length};
 ghost use Rattle.rx_term.specs.Walks.{AllHeld};
-ghost use Rattle.rec_match.specs.Forests.{Extends, StandAbove, values_among};
+ghost use Rattle.rec_match.specs.Forests.{Extends};
 ghost use Rattle.rec_match.specs.Matching.{CanFind, FindsOn};
 
-use crate::forest::{Forest, Hit, Values};
-use crate::settle::{move_down, settle};
+use crate::forest::{Forest, Hit};
 use rec_sorts::Links;
 use rx_term::{Term, TermBank};
 use std::alloc::AllocError;
@@ -77,31 +76,5 @@ impl Matcher {
     {
         let first = work.len() - count as usize;
         self.forest.run(bank, symbol, first, at, work)
-    }
-
-    /// The values of a rule that was found come to stand from a place on, and what stood there
-    /// goes; the registers begin at a first place.
-    #[inline(always)]
-    pub fn settle(
-        &self,
-        values: Values,
-        first: usize,
-        to: usize,
-        work: &mut Vec<Term>,
-    ) -> Result<(), AllocError>
-        requires there { StandAbove self.now.forest first to work.old.items values }
-        ensures { IfOk result (λ u. work.new.items ≡ take to work.old.items
-            ++ values_among self.now.forest first work.old.items values) }
-    {
-        match values {
-            Values::OnTop(from) => {
-                move_down(work, to, from);
-                Ok(())
-            }
-            Values::InRegisters { from, to: end } => {
-                let places = &self.forest.places[from..end];
-                settle(places, first, to, work)
-            }
-        }
     }
 }

@@ -1,12 +1,14 @@
 //! The least rule that matches a term of a bank.
 
-ghost use Rattle.std.specs.Prelude.{◌≡◌, ◌<◌, [], length, IfOk, IfErr, IsSome, Some, None};
+ghost use Rattle.std.specs.Prelude.{ℕ, ◌≡◌, ◌<◌, ◌++◌, [], All, length, map};
+ghost use Rattle.std.specs.Prelude.{IfOk, IfErr, IsSome, Some, None};
 ghost use Rattle.rx_term.specs.Store.{tree_at};
 ghost use Rattle.rx_term.specs.Kinds.{HasAppl, HasAnns};
 ghost use Rattle.rec_sorts.specs.Linked.{NumberOf};
+ghost use Rattle.rec_match.specs.Forests.{IsWithin, StandAbove, value_in, values_among};
 ghost use Rattle.rec_match.specs.Next.{AreLater, AreReady, Answers, Reaches};
 
-use crate::forest::push_arguments;
+use crate::forest::{Place, Values, push_arguments};
 use crate::matcher::Matcher;
 use rx_term::{Kind, Symbol, Term, TermBank};
 use smallvec::SmallVec;
@@ -18,6 +20,25 @@ struct Call {
     term: Term,
     symbol: Symbol,
     number: u32,
+}
+
+/// The values at places come behind others. Without room these are as before.
+fn read_places(
+    places: &[Place],
+    work: &[Term],
+    bind: &mut SmallVec<Term, 8>,
+) -> Result<(), AllocError>
+    requires there { All (IsWithin 0 work.now) places.now }
+    ensures read { IfOk result (λ u. bind.new.items
+        ≡ bind.old.items ++ map (value_in 0 work.now) places.now) }
+    ensures same { IfErr result (λ refused. bind.new.items ≡ bind.old.items) }
+{
+    bind.reserve(places.len())?;
+    for place in places {
+        let value = work[place.register() as usize];
+        bind.push_reserved(value);
+    }
+    Ok(())
 }
 
 impl Matcher {
@@ -32,6 +53,28 @@ impl Matcher {
             at = self.sides[at as usize].next;
         }
         at
+    }
+
+    /// The values of a rule that was found for so many registers come behind others. Without room
+    /// these are as before.
+    fn read_values(
+        &self,
+        values: Values,
+        work: &[Term],
+        bind: &mut SmallVec<Term, 8>,
+    ) -> Result<(), AllocError>
+        requires there { (n : ℕ) × StandAbove self.now.forest 0 n work.now values }
+        ensures read { IfOk result (λ u. bind.new.items
+            ≡ bind.old.items ++ values_among self.now.forest 0 work.now values) }
+        ensures same { IfErr result (λ refused. bind.new.items ≡ bind.old.items) }
+    {
+        match values {
+            Values::OnTop(from) => bind.extend_from_slice(&work[from..]),
+            Values::InRegisters { from, to } => {
+                let places = &self.forest.places[from..to];
+                read_places(places, work, bind)
+            }
+        }
     }
 
     /// The same as `next` for an application without annotations of a symbol that has a number; its
@@ -63,8 +106,7 @@ impl Matcher {
         let Some(hit) = self.find_rule(bank, call.number, count, at, work)? else {
             return Ok(None);
         };
-        self.settle(hit.values, 0, count as usize, work)?;
-        bind.extend_from_slice(&work[count as usize..])?;
+        self.read_values(hit.values, work, bind)?;
         Ok(Some(hit.rule))
     }
 

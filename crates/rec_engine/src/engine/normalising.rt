@@ -117,7 +117,7 @@ impl<B: TermBank> Engine<B> {
         ensures memo { self.new.memo ≡ self.old.memo }
         ensures work { self.new.work ≡ self.old.work }
     {
-        let counts = Counts::of(alloc, self.machine.code.starts.len())?;
+        let counts = Counts::of(alloc, self.machine.code.starts.rules.len())?;
         self.machine.state.counts = counts;
         Ok(())
     }

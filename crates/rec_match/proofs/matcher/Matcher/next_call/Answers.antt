@@ -1,4 +1,4 @@
-use Rattle.std.proofs.Common.{sym, ap, subst, arith, ◌∙◌, ◌≡◌, ◌≤◌, ◌++◌, ◌-◌, [], List, length, take, drop}
+use Rattle.std.proofs.Common.{sym, ap, subst, arith, ◌∙◌, ◌≡◌, ◌≤◌, ◌++◌, ◌-◌, [], List, length}
 use Rattle.rx_term.specs.Tree.{to_list}
 use Rattle.rx_term.specs.declared.Term.{Term}
 use Rattle.rx_term.specs.Walks.{AllHeld, held_trees}
@@ -6,8 +6,6 @@ use Rattle.rx_term.proofs.WalkLemmas.{AllHeld-nil}
 use Rattle.rec_match.specs.Matching.{FindsOn}
 use Rattle.rec_match.proofs.TurnLemmas.{argument_list}
 use Rattle.rec_match.specs.Forests.{StandAbove, values_among}
-use Rattle.rec_match.proofs.RunLemmas.{rest_is}
-use Rattle.rec_match.proofs.SettleLemmas.{stand-above-fewer, above-within, settled-long, settled-rest}
 use Rattle.rec_match.proofs.AnswerLemmas.{declared-number, all-later, is-call, can-find-there, arity-is, arguments-long, answer-none, answer-past, answer-some}
 use Rattle.rec_match.proofs.matcher.Matcher.next_call.Goals as goal
 
@@ -73,63 +71,28 @@ returns-in_default-clause-answers g c = λ y ready. (
   c.requires.empty,
 )
 
-pub settle-requires : goal.settle-requires
-settle-requires g c =
+pub read_values-requires : goal.read_values-requires
+read_values-requires g c =
     let w = g.B.TermBank.store c.args.bank.now in
     let m = c.args.self.now in
     let h = c.requires.appl in
     let hit = c.in-Some.hit in
     let registers = c.push_arguments.new.registers.items in
+    let found = c.find_rule.new.work.items in
     let count = c.arity_of-count.result in
     let pushed = c.in_ok-push_arguments.ensures.pushes h.args (argument_list w c.args.call.term c.args-2.result c.args.call.symbol h c.args-2.ensures)
     (subst (AllHeld w) (sym c.requires.work) (AllHeld-nil w)) in
     let are : held_trees w registers ≡ to_list h.args = pushed.1 ∙ ap (λ xs. held_trees w xs ++ to_list h.args) c.requires.work in
     let long = arguments-long w h.args count registers (arity-is w c.args.call.term c.args.call.symbol h count c.arity_of-count.ensures) are in
-    let finds = subst (FindsOn w m (length registers - count) c.first_rule-at.result registers c.find_rule.new.work.items) c.in-Some.is
-    c.in_ok-hit.ensures.finds in
+    let finds = subst (FindsOn w m (length registers - count) c.first_rule-at.result registers found) c.in-Some.is c.in_ok-hit.ensures.finds in
     let zero : length registers - count ≡ 0 = omega (arith, long) in
     record {
-      there = subst (λ k. StandAbove m.forest k count c.find_rule.new.work.items hit.values) zero
-          (stand-above-fewer (length registers - count) c.find_rule.new.work.items m.forest (length registers) count hit.values (omega (arith, long)) finds.0);
+      there = (
+        length registers,
+        subst (λ (xs : List Term). StandAbove m.forest 0 (length registers) xs hit.values) (sym c.deref.ensures.value)
+            (subst (λ k. StandAbove m.forest k (length registers) found hit.values) zero finds.0),
+      );
     }
-
-pub slice_bounds-extend_from_slice-count : goal.slice_bounds-extend_from_slice-count
-slice_bounds-extend_from_slice-count g c =
-    let w = g.B.TermBank.store c.args.bank.now in
-    let m = c.args.self.now in
-    let h = c.requires.appl in
-    let hit = c.in-Some.hit in
-    let registers = c.push_arguments.new.registers.items in
-    let found = c.find_rule.new.work.items in
-    let count = c.arity_of-count.result in
-    let pushed = c.in_ok-push_arguments.ensures.pushes h.args (argument_list w c.args.call.term c.args-2.result c.args.call.symbol h c.args-2.ensures)
-    (subst (AllHeld w) (sym c.requires.work) (AllHeld-nil w)) in
-    let are : held_trees w registers ≡ to_list h.args = pushed.1 ∙ ap (λ xs. held_trees w xs ++ to_list h.args) c.requires.work in
-    let long = arguments-long w h.args count registers (arity-is w c.args.call.term c.args.call.symbol h count c.arity_of-count.ensures) are in
-    let finds = subst (FindsOn w m (length registers - count) c.first_rule-at.result registers found) c.in-Some.is c.in_ok-hit.ensures.finds in
-    let within = above-within (length registers - count) found m.forest (length registers) hit.values finds.0 in
-    let longer = settled-long count found (values_among m.forest 0 found hit.values) c.settle.new.work.items (omega (arith, long, within))
-    c.in_ok-settle.ensures in
-    subst (λ (xs : List Term). count ≤ length xs) (sym c.deref.ensures.value) longer
-
-pub slice_bounds-extend_from_slice-start : goal.slice_bounds-extend_from_slice-start
-slice_bounds-extend_from_slice-start g c =
-    let w = g.B.TermBank.store c.args.bank.now in
-    let m = c.args.self.now in
-    let h = c.requires.appl in
-    let hit = c.in-Some.hit in
-    let registers = c.push_arguments.new.registers.items in
-    let found = c.find_rule.new.work.items in
-    let count = c.arity_of-count.result in
-    let pushed = c.in_ok-push_arguments.ensures.pushes h.args (argument_list w c.args.call.term c.args-2.result c.args.call.symbol h c.args-2.ensures)
-    (subst (AllHeld w) (sym c.requires.work) (AllHeld-nil w)) in
-    let are : held_trees w registers ≡ to_list h.args = pushed.1 ∙ ap (λ xs. held_trees w xs ++ to_list h.args) c.requires.work in
-    let long = arguments-long w h.args count registers (arity-is w c.args.call.term c.args.call.symbol h count c.arity_of-count.ensures) are in
-    let finds = subst (FindsOn w m (length registers - count) c.first_rule-at.result registers found) c.in-Some.is c.in_ok-hit.ensures.finds in
-    let within = above-within (length registers - count) found m.forest (length registers) hit.values finds.0 in
-    let longer = settled-long count found (values_among m.forest 0 found hit.values) c.settle.new.work.items (omega (arith, long, within))
-    c.in_ok-settle.ensures in
-    subst (λ (xs : List Term). count ≤ length xs) (sym c.deref.ensures.value) longer
 
 pub returns-clause-answers : goal.returns-clause-answers
 returns-clause-answers g c = λ y ready.
@@ -140,7 +103,6 @@ returns-clause-answers g c = λ y ready.
     let hit = c.in-Some.hit in
     let registers = c.push_arguments.new.registers.items in
     let found = c.find_rule.new.work.items in
-    let settled = c.settle.new.work.items in
     let count = c.arity_of-count.result in
     let pushed = c.in_ok-push_arguments.ensures.pushes h.args (argument_list w u c.args-2.result c.args.call.symbol h c.args-2.ensures)
     (subst (AllHeld w) (sym c.requires.work) (AllHeld-nil w)) in
@@ -149,11 +111,8 @@ returns-clause-answers g c = λ y ready.
     let call = is-call y w m ready u c.args.call.symbol c.args.call.number h c.requires.number c.requires.bare in
     let finds = subst (FindsOn w m (length registers - count) c.first_rule-at.result registers found) c.in-Some.is c.in_ok-hit.ensures.finds in
     let zero : length registers - count ≡ 0 = omega (arith, long) in
-    let within = above-within (length registers - count) found m.forest (length registers) hit.values finds.0 in
-    let values = values_among m.forest (length registers - count) found hit.values in
-    let rest : drop count settled ≡ values = settled-rest count found (values_among m.forest 0 found hit.values) settled (omega (arith, long, within))
-    c.in_ok-settle.ensures ∙ ap (λ k. values_among m.forest k found hit.values) (sym zero) in
     answer-some y w m ready u c.args.call.number c.args.from c.first_rule-at.result h.args call c.first_rule-at.ensures registers are
-    c.extend_from_slice.new.self.items values hit.rule finds.1
-    (c.in_ok-extend_from_slice.ensures.ok ∙ ap (λ xs. xs ++ take (length c.deref.result.now - count) (drop count c.deref.result.now)) c.requires.empty
-    ∙ rest_is c.deref.result.now settled count c.deref.ensures.value ∙ rest)
+    c.read_values.new.bind.items (values_among m.forest (length registers - count) found hit.values) hit.rule finds.1
+    (c.in_ok-read_values.ensures.read ∙ ap (λ xs. xs ++ values_among m.forest 0 c.deref.result.now hit.values) c.requires.empty
+    ∙ ap (λ (xs : List Term). values_among m.forest 0 xs hit.values) c.deref.ensures.value
+    ∙ ap (λ k. values_among m.forest k found hit.values) (sym zero))
