@@ -1,9 +1,10 @@
 -- Which slots have entries in the hints, as cells come and go.
-use Rattle.std.proofs.Common.{◌≡◌, ◌≢◌, ℕ, ◌<◌, List, inl, inr, Option, Some, None, IsSome, is_some, refl, sym, ap, subst, ◌∙◌, arith}
+use Rattle.std.proofs.Common.{◌≡◌, ◌≢◌, ℕ, ◌+◌, ◌*◌, ◌<◌, List, inl, inr, Option, Some, None, IsSome, is_some, refl, sym, ap, subst, ◌∙◌, arith}
 use Rattle.std.proofs.lemmas.Bool.Decides.{eqb_tells}
 use Rattle.rx_arena.specs.declared.CellBody.{CellBody}
 use Rattle.rx_arena.specs.declared.Face.{Face}
-use Rattle.rx_arena.specs.Faces.{word_of}
+use Rattle.rx_arena.specs.Faces.{ask, word_of}
+use Rattle.rx_arena.proofs.FaceLemmas.{fits-small, word-small}
 use Rattle.rx_arena.specs.Put.{times}
 use Rattle.rx_arena.specs.Arena.{Taken, ArenaState, taken_at}
 use Rattle.rx_sweep.specs.Reach.{names, cell_names}
@@ -86,6 +87,15 @@ held-small b t held = elim (lt_or_le t.0 b.arena.cap) [
   | inr le ↦ absurd (let there = sym (cell-held b t.0) ∙ held in let gone = ap (λ o. is_some (cell_in o)) (b.tidy.bounded t.0 le) in let both =
       sym gone ∙ there in cc)
 ]
+
+-- the word of a body without annotations does not say to ask the cell, where its parts are small
+pub not-asked : (k a b hash : ℕ) → k < 4 → b < 1073741824 → (a < 4294967296) × ((k * 1073741824 + b) * 4294967296 + a < 18446744073709551615)
+    → word_of (record { kind = k; a = a; b = b; anns = None; hash = hash }) ≢ ask
+not-asked k a b hash few low small e =
+    let s : (k * 1073741824 + b) * 4294967296 + a ≡ 18446744073709551615 =
+    sym (word-small (record { kind = k; a = a; b = b; anns = None; hash = hash }) (fits-small k a b few small.0 low)) ∙ e in
+    let less = small.1 in
+    omega (arith, s, less)
 
 -- the list behind a first item is held, and so are arguments
 pub longer-tail : (x xs : Option Tree) → IsSome (longer x xs) → IsSome xs

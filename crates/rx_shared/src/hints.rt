@@ -130,14 +130,10 @@ impl Hints {
         ensures { result ≡ 0 → ¬ (Covers self.now.last.items body) }
     {
         if body.kind == LIST {
-            let over_head = self.get(body.a);
-            let over_tail = self.get(body.b);
-            if over_head == 0 || over_tail == 0 {
-                0
-            } else if body.b == u64::from(self.empty) {
-                over_head
+            if body.b == u64::from(self.empty) {
+                self.get(body.a)
             } else {
-                over_tail
+                self.get(body.b)
             }
         } else if body.kind == APPLICATION {
             self.get(body.b)
@@ -148,6 +144,15 @@ impl Hints {
         } else {
             UNKNOWN
         }
+    }
+
+    /// Whether no taken cell has this body, as it is a list node's and nothing was made over its
+    /// head or its tail.
+    #[inline(always)]
+    pub(crate) fn rules_out(&self, body: CellBody) -> bool
+        ensures { IsTrue result → ¬ (Covers self.now.last.items body) }
+    {
+        body.kind == LIST && (self.get(body.a) == 0 || self.get(body.b) == 0)
     }
 
     /// The slot by whose entry a body is looked up: the tail of a list, or the head where the tail

@@ -1,6 +1,6 @@
 //! Terms are made, each once.
 
-ghost use Rattle.std.specs.Prelude.{◌≡◌, length};
+ghost use Rattle.std.specs.Prelude.{◌≡◌, ◌+◌, ◌*◌, ◌<◌, ℕ, false, length};
 ghost use Rattle.rx_shared.specs.Tidy.{heap_of};
 
 use crate::bank::{LAST_BITS, SharedBank};
@@ -10,6 +10,25 @@ use rx_arena::faces::{bare_word, word};
 use rx_arena::{ArenaFault, CellBody, Slot};
 use rx_sweep::kinds::{APPLICATION, LIST};
 use rx_term::{BankFault, Term};
+
+/// The first word of the word that says to ask the cell, and the greatest that a word has.
+const LARGEST: u64 = u32::MAX as u64;
+
+/// Whether a body of this kind without annotations, with this first word and a small second one,
+/// may have the word that says to ask the cell.
+#[inline(always)]
+fn may_ask(kind: u8, a: u64) -> bool
+    ensures { result ≡ false → (b : ℕ) → kind < 4 → b < 1073741824 → (a < 4294967296)
+        × ((kind * 1073741824 + b) * 4294967296 + a < 18446744073709551615) }
+{
+    if a < LARGEST {
+        return false;
+    }
+    if kind > LIST {
+        return true;
+    }
+    a > LARGEST
+}
 
 impl SharedBank {
     ghost use Rattle.std.specs.Prelude.{◌≢◌, ◌<◌, ◌%◌, ℕ, IsSome, IsTrue, Some, None};
@@ -74,19 +93,19 @@ impl SharedBank {
     }
 
     /// The reference of a body of this word, searched along its chain unless it is known that no
-    /// slot holds it.
+    /// slot holds it, as the hints told 0.
     #[inline(always)]
-    fn make_by_hash(&mut self, body: CellBody, word: u64, is_new: bool) -> Result<Term, BankFault>
+    fn make_by_hash(&mut self, body: CellBody, word: u64, told: u32) -> Result<Term, BankFault>
         requires word { word ≡ word_of body }
         requires written { IsWritten body }
         requires tree { IsSome (tree_of_body (store_of self.old) body) }
-        requires nowhere { IsTrue is_new
+        requires nowhere { told ≡ 0
             → (t : ℕ) → heap_of self.old.arena t ≢ Some (cell_of body) }
         ensures { let w = store_of self.old in
             MakesOrRefuses w (store_of self.new) (tree_of_body w body) result }
     {
         let chain = self.home(body.hash);
-        if !is_new {
+        if told > 0 && !self.hints.rules_out(body) {
             if let Some(slot) = find(&self.arena, chain, body, word) {
                 self.hints.point(body, slot.0);
                 return Ok(Term(slot.0));
@@ -99,36 +118,30 @@ impl SharedBank {
 
     /// The same for a list node of these words.
     #[inline(never)]
-    fn make_list(&mut self, a: u64, b: u64, word: u64, is_new: bool) -> Result<Term, BankFault>
+    fn make_list(&mut self, a: u64, b: u64, word: u64, told: u32) -> Result<Term, BankFault>
         requires word { word ≡ word_of (body_of 2 a b None) }
         requires written { IsWritten (body_of 2 a b None) }
         requires tree { IsSome (tree_of_body (store_of self.old) (body_of 2 a b None)) }
-        requires nowhere { IsTrue is_new
+        requires nowhere { told ≡ 0
             → (t : ℕ) → heap_of self.old.arena t ≢ Some (cell_of (body_of 2 a b None)) }
         ensures { let w = store_of self.old in MakesOrRefuses w (store_of self.new)
             (tree_of_body w (body_of 2 a b None)) result }
     {
-        self.make_by_hash(body(LIST, a, b, None), word, is_new)
+        self.make_by_hash(body(LIST, a, b, None), word, told)
     }
 
     /// The same for an application of these words.
     #[inline(never)]
-    fn make_application(
-        &mut self,
-        a: u64,
-        b: u64,
-        word: u64,
-        is_new: bool,
-    ) -> Result<Term, BankFault>
+    fn make_application(&mut self, a: u64, b: u64, word: u64, told: u32) -> Result<Term, BankFault>
         requires word { word ≡ word_of (body_of 3 a b None) }
         requires written { IsWritten (body_of 3 a b None) }
         requires tree { IsSome (tree_of_body (store_of self.old) (body_of 3 a b None)) }
-        requires nowhere { IsTrue is_new
+        requires nowhere { told ≡ 0
             → (t : ℕ) → heap_of self.old.arena t ≢ Some (cell_of (body_of 3 a b None)) }
         ensures { let w = store_of self.old in MakesOrRefuses w (store_of self.new)
             (tree_of_body w (body_of 3 a b None)) result }
     {
-        self.make_by_hash(body(APPLICATION, a, b, None), word, is_new)
+        self.make_by_hash(body(APPLICATION, a, b, None), word, told)
     }
 
     /// The same for any body of these words.
@@ -139,17 +152,17 @@ impl SharedBank {
         a: u64,
         b: u64,
         anns: Option<Slot>,
-        is_new: bool,
+        told: u32,
     ) -> Result<Term, BankFault>
         requires written { IsWritten (body_of kind a b anns) }
         requires tree { IsSome (tree_of_body (store_of self.old) (body_of kind a b anns)) }
-        requires nowhere { IsTrue is_new
+        requires nowhere { told ≡ 0
             → (t : ℕ) → heap_of self.old.arena t ≢ Some (cell_of (body_of kind a b anns)) }
         ensures { let w = store_of self.old in MakesOrRefuses w (store_of self.new)
             (tree_of_body w (body_of kind a b anns)) result }
     {
         let whole = body(kind, a, b, anns);
-        self.make_by_hash(whole, word(whole), is_new)
+        self.make_by_hash(whole, word(whole), told)
     }
 
     /// The same. A body is put together behind a call alone, and in one where its kind is known.
@@ -161,25 +174,25 @@ impl SharedBank {
         b: u64,
         anns: Option<Slot>,
         word: u64,
-        is_new: bool,
+        told: u32,
     ) -> Result<Term, BankFault>
         requires word { word ≡ word_of (body_of kind a b anns) }
         requires written { IsWritten (body_of kind a b anns) }
         requires tree { IsSome (tree_of_body (store_of self.old) (body_of kind a b anns)) }
-        requires nowhere { IsTrue is_new
+        requires nowhere { told ≡ 0
             → (t : ℕ) → heap_of self.old.arena t ≢ Some (cell_of (body_of kind a b anns)) }
         ensures { let w = store_of self.old in MakesOrRefuses w (store_of self.new)
             (tree_of_body w (body_of kind a b anns)) result }
     {
         match anns {
-            Some(_) => self.make_any(kind, a, b, anns, is_new),
+            Some(_) => self.make_any(kind, a, b, anns, told),
             None => {
                 if kind == LIST {
-                    self.make_list(a, b, word, is_new)
+                    self.make_list(a, b, word, told)
                 } else if kind == APPLICATION {
-                    self.make_application(a, b, word, is_new)
+                    self.make_application(a, b, word, told)
                 } else {
-                    self.make_any(kind, a, b, None, is_new)
+                    self.make_any(kind, a, b, None, told)
                 }
             }
         }
@@ -198,7 +211,7 @@ impl SharedBank {
         if told > 0 && holds_word(&self.arena, Slot(told - 1), word) {
             return Ok(Term(told - 1));
         }
-        self.make_slowly(body.kind, body.a, body.b, body.anns, word, told == 0)
+        self.make_slowly(body.kind, body.a, body.b, body.anns, word, told)
     }
 
     /// The reference of a body.
@@ -213,7 +226,8 @@ impl SharedBank {
     }
 
     /// The reference of a body of one of these kinds without annotations, whose second word is the
-    /// slot of a held reference: its word needs no look at that.
+    /// slot of a held reference: its word needs no look at that, nor does it say to ask the cell
+    /// where the first word is small. Where the hints tell of no slot, none holds the word.
     #[inline(always)]
     pub(super) fn make_bare(&mut self, kind: u8, a: u64, b: Term) -> Result<Term, BankFault>
         requires kind { kind < 4 }
@@ -224,6 +238,16 @@ impl SharedBank {
             (tree_of_body w (body_of kind a b.0 None)) result }
     {
         let second = u64::from(b.0);
-        self.make_with(body(kind, a, second, None), bare_word(kind, a, second))
+        let whole = body(kind, a, second, None);
+        if may_ask(kind, a) {
+            return self.make(whole);
+        }
+        let word = bare_word(kind, a, second);
+        let told = self.hints.look(whole);
+        let slot = Slot(told.wrapping_sub(1));
+        if self.arena.holds_word(slot, word) {
+            return Ok(Term(slot.0));
+        }
+        self.make_slowly(kind, a, second, None, word, told)
     }
 }

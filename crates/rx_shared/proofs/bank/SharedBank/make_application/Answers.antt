@@ -1,4 +1,4 @@
-use Rattle.std.proofs.Common.{IsSome, IsTrue, ℕ, ◌≢◌, Some, sym, ap, subst, ◌∙◌}
+use Rattle.std.proofs.Common.{IsSome, ℕ, ◌≡◌, ◌≢◌, Some, sym, ap, subst, ◌∙◌}
 use Rattle.rx_arena.specs.declared.CellBody.{CellBody}
 use Rattle.rx_arena.specs.Faces.{word_of}
 use Rattle.rx_term.specs.Steps.{MakesOrRefuses}
@@ -18,7 +18,7 @@ make_by_hash-requires-clause-tree c = subst (λ (x : CellBody). IsSome (tree_of_
 
 pub make_by_hash-requires-clause-nowhere : goal.make_by_hash-requires-clause-nowhere
 make_by_hash-requires-clause-nowhere c =
-    subst (λ (x : CellBody). IsTrue c.args.is_new → (t : ℕ) → heap_of c.args.self.now.arena t ≢ Some (cell_of x)) (sym c.body.ensures) c.requires.nowhere
+    subst (λ (x : CellBody). c.args.told ≡ 0 → (t : ℕ) → heap_of c.args.self.now.arena t ≢ Some (cell_of x)) (sym c.body.ensures) c.requires.nowhere
 
 pub returns : goal.returns
 returns c =
