@@ -13,6 +13,7 @@ pub mod RuleMoveLemmas
 pub mod SettledLemmas
 pub mod BeginTurnLemmas
 pub mod FindTurnLemmas
+pub mod SpendTurnLemmas
 pub mod EndTurnLemmas
 pub mod InvokeTurnLemmas
 pub mod ReturnTurnLemmas

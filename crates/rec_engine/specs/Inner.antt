@@ -8,4 +8,5 @@ pub mod Heap
 pub mod Made
 pub mod Pace
 pub mod Started
+pub mod Turned
 pub mod Written

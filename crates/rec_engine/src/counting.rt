@@ -1,6 +1,7 @@
 //! What is counted while terms are evaluated. It changes nothing of them, so no clause speaks of
 //! it.
 
+ghost use Rattle.std.specs.Prelude.{◌≡◌, ◌<◌, false};
 ghost use Rattle.rec_engine.specs.Machine.{GoesOn};
 
 use crate::code::Code;
@@ -43,9 +44,9 @@ const TELLING: u64 = 65_536;
 #[derive(Drop)]
 pub(crate) struct Counts {
     rules: Vec<RuleCount>,
-    /// Behind a rule that was found there is nothing to do where the steps that are left have one
-    /// of these bits: so it is one test whether rules are counted, and whether somebody is to be
-    /// told.
+    /// For a rule that was found there is nothing more to do where the steps that are left have one
+    /// of these bits: so it is one test whether a step is left, whether rules are counted, and
+    /// whether somebody is to be told.
     mask: u64,
 }
 
@@ -76,16 +77,26 @@ impl Counts {
         &self.rules
     }
 
-    /// A rule was found, and a step is spent for it, so that so many are left; without conditions
-    /// it fires. How the machine goes on.
+    /// Whether, where so many steps are left for a rule that was found, there is more to do than to
+    /// use it: none is left, or it is counted, or somebody is to be told.
     #[inline(always)]
+    pub(crate) fn asks(&self, left: u64) -> bool
+        ensures { result ≡ false → 0 < left }
+    {
+        left & self.mask == 0
+    }
+
+    /// A rule was found for which so many steps were left, and one is spent for it; without
+    /// conditions it fires. How the machine goes on.
     pub(crate) fn find(&mut self, left: u64, rule: u32, conditional: bool) -> Flow
         ensures { GoesOn result }
     {
-        if left & self.mask == 0 {
-            return self.note_find(left, rule as usize, conditional);
+        self.count_begin(rule as usize, conditional);
+        if left % TELLING == 0 {
+            Flow::Tell
+        } else {
+            Flow::Go
         }
-        Flow::Go
     }
 
     /// The conditions hold of the rule whose code goes over a place.
@@ -105,19 +116,6 @@ impl Counts {
     }
 
     // what follows stands apart from the way of each rule
-
-    #[cold]
-    #[inline(never)]
-    fn note_find(&mut self, left: u64, rule: usize, conditional: bool) -> Flow
-        ensures { GoesOn result }
-    {
-        self.count_begin(rule, conditional);
-        if left % TELLING == 0 {
-            Flow::Tell
-        } else {
-            Flow::Go
-        }
-    }
 
     fn count_begin(&mut self, rule: usize, conditional: bool) {
         if rule >= self.rules.len() {

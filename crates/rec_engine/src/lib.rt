@@ -23,6 +23,7 @@ mod remembering;
 mod runs;
 mod starts;
 mod terms;
+mod turned;
 mod watch;
 mod work;
 

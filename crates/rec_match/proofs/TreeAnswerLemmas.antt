@@ -10,13 +10,13 @@ use Rattle.rx_term.specs.declared.Symbol as bank
 use Rattle.rx_term.specs.Walks.{held_trees}
 use Rattle.rec_syntax.specs.Syntax.{Spec}
 use Rattle.rec_sorts.specs.Lookup.{symbols}
-use Rattle.rec_sorts.specs.Binding.{Substitution, application, binds, first_match}
+use Rattle.rec_sorts.specs.Binding.{Substitution, application, binds, first_match, next_match}
 use Rattle.rec_sorts.specs.Linked.{AreLinked}
 use Rattle.rec_sorts.specs.Numbering.{name_of, arity_of}
 use Rattle.rec_sorts.specs.declared.letters.Meaning.TheVariants.{Symbol}
 use Rattle.rec_match.specs.Forests as forests
 use Rattle.rec_match.specs.Forests.{AreNumbers, CanRun, Runs}
-use Rattle.rec_match.specs.Matching.{IsMatcher, IsSide, CanFind, FindsFor, symbol_at, numbers_of}
+use Rattle.rec_match.specs.Matching.{IsMatcher, IsSide, CanFind, FindsFor, symbol_at, numbers_of, first_rule}
 use Rattle.rec_match.specs.declared.matcher.Matcher.{Matcher}
 use Rattle.rec_match.proofs.AnswerLemmas.{found-binds, no_rule}
 use Rattle.rec_match.proofs.FactLemmas.{facts, RuleFacts}
@@ -67,12 +67,37 @@ own-rule y ss m matcher k i ltk lt args s binding = by (cases_eq (symbol_at m i)
     by (inr ne) = absurd (cc (sym (other-head y matcher.kept (get_or y.rules i no_rule).left (symbol_at m i) k side.declared ltk side.head ne
         (from_list args)) ∙ binding))
 
+-- what the trees of a symbol find among the rules from a number on, by each specification whose
+-- matcher it is
+abbrev pub FoundFor : Store → Matcher → ℕ → ℕ → List Term → List Term → Option ℕ → Type 0
+FoundFor w m k at args bind found = (y : Spec) (ss : List bank.Symbol) → AreLinked y w ss → IsMatcher y ss m → k < length (symbols y)
+    → length args ≡ arity_of y k → forests.Finds y w (name_of y (Symbol k)) at args bind found
+
+pub found-runs : (w : Store) (m : Matcher) (k at : ℕ) (args bind : List Term) (found : Option ℕ) → Runs w m.forest k at args bind found
+    → FoundFor w m k at args bind found
+found-runs w m k at args bind found runs y ss linked matcher lt counted =
+    runs y (numbers_of ss) (linked-numbers y w ss linked) matcher.forest lt counted
+
+-- all rules of a symbol are those from its first one on
+pub found-all : (w : Store) (m : Matcher) (k : ℕ) (args bind : List Term) (found : Option ℕ) → Runs w m.forest k 0 args bind found
+    → FoundFor w m k (first_rule m k) args bind found
+found-all w m k args bind found runs y ss linked matcher lt counted =
+    by found (runs y (numbers_of ss) (linked-numbers y w ss linked) matcher.forest lt counted)
+  where
+    same : next_match y 0 (application (name_of y (Symbol k)) (from_list (held_trees w args)))
+        ≡ next_match y (first_rule m k) (application (name_of y (Symbol k)) (from_list (held_trees w args)))
+    same = (matcher.heads k 0 (let n = matcher.symbols in omega (arith, n, lt))).0 (from_list (held_trees w args))
+
+    by : (o : Option ℕ) → forests.Finds y w (name_of y (Symbol k)) 0 args bind o → forests.Finds y w (name_of y (Symbol k)) (first_rule m k) args bind o
+    by None h = (sym same ∙ h.0, h.1)
+    by (Some i) h = record { values = h.values; first = sym same ∙ h.first; bound = h.bound; held = h.held }
+
 module _ (w : Store) (m : Matcher) (k n at : ℕ) (work args bind : List Term) (found : Option ℕ) (can : CanFind w m k n at work)
-    (ea : args ≡ drop (length work - n) work) (runs : Runs w m.forest k at args bind found) where
+    (ea : args ≡ drop (length work - n) work) (runs : FoundFor w m k at args bind found) where
   -- behind the last rule the trees find none
   trees-find-none : length m.sides.items ≤ at → FindsFor w m at work bind found
   trees-find-none le y ss below own j linked matcher ltj head split counted =
-      by found (runs can.spec (numbers_of can.symbols) (linked-numbers can.spec w can.symbols can.linked) can.matcher.forest can.declared
+      by found (runs can.spec can.symbols can.linked can.matcher can.declared
       (args-long w m k n at work args can ea ∙ can.counted))
     where
       by : (o : Option ℕ) → forests.Finds can.spec w (name_of can.spec (Symbol k)) at args bind o
@@ -84,7 +109,7 @@ module _ (w : Store) (m : Matcher) (k n at : ℕ) (work args bind : List Term) (
   -- where there is a rule, it is one of the symbol
   trees-find-one : at < length m.sides.items → FindsFor w m at work bind found
   trees-find-one lt y ss below own j linked matcher ltj head split counted =
-      by found (runs y (numbers_of ss) (linked-numbers y w ss linked) matcher.forest (subst (λ i. i < length (symbols y)) (sym same) ltj)
+      by found (runs y ss linked matcher (subst (λ i. i < length (symbols y)) (sym same) ltj)
       (ap length is ∙ sym (counted lt) ∙ side.filled ∙ ap (arity_of y) (can.head lt)))
     where
       side : IsSide y ss m at (get_or y.rules at no_rule)

@@ -18,6 +18,8 @@ use Rattle.rec_sorts.specs.declared.letters.Meaning.TheVariants.{Symbol}
 use Rattle.rec_match.specs.Bound.{opened}
 use Rattle.rec_match.specs.Rows.{Found, found_of, found_at, or_else, tree_in, values_of}
 use Rattle.rec_match.specs.declared.forest.Forest.{Forest}
+use Rattle.rec_match.specs.declared.forest.Glance.{Glance}
+use Rattle.rec_match.specs.declared.forest.Glance.TheVariants.{Found as Hits, Left}
 use Rattle.rec_match.specs.declared.forest.Hit.{Hit}
 use Rattle.rec_match.specs.declared.forest.Node.{Node}
 use Rattle.rec_match.specs.declared.forest.Node.TheVariants.{Fail, Try, Switch}
@@ -355,3 +357,8 @@ NoneBefore w f k least args i = (y : Spec) (ns : List ℕ) → AreNumbers y w ns
     → (h : IsForest y ns f) → k < length (symbols y) → length args ≡ arity_of y k
     → first_tree h.reading least (roots_at f k) (held_trees w args)
     ≡ first_tree h.reading least (drop i (roots_at f k)) (held_trees w args)
+
+-- what a look at the first tree of a symbol finds for the references from one on, and leaves on top
+abbrev pub GlancesOn : Store → Forest → ℕ → ℕ → List Term → List Term → Glance → Type 0
+GlancesOn w f k first old new (Hits hit) = RunsOn w f k 0 first old new (Some hit)
+GlancesOn w f k first old new (Left n) = NoneBefore w f k 0 (drop first old) n × (new ≡ old)

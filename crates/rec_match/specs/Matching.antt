@@ -1,6 +1,6 @@
 -- What a matcher keeps of left sides, and what it finds.
 use Rattle.std.specs.Prelude.{ℕ, ◌≡◌, ◌<◌, ◌≤◌, List, [], ◌∷◌, ◌++◌, Option, Some, None, All, map}
-use Rattle.std.specs.Prelude.{reverse, length, get_or, drop, zero, suc}
+use Rattle.std.specs.Prelude.{◌-◌, reverse, length, get_or, drop, zero, suc}
 use Rattle.rx_term.specs.Tree.{Tree, Trees, from_list}
 use Rattle.rx_term.specs.Store.{Store}
 use Rattle.rx_term.specs.declared.Term.{Term}
@@ -15,10 +15,12 @@ use Rattle.rec_sorts.specs.Numbering.{named_all, name_of, named_by, IsMeaning, a
 use Rattle.rec_sorts.specs.Linked.{AreLinked}
 use Rattle.rec_sorts.specs.declared.letters.Letter.{Letter}
 use Rattle.rec_sorts.specs.declared.letters.Meaning.TheVariants.{Symbol, Variable}
-use Rattle.rec_match.specs.Forests.{IsForest, IsFoundBy, StandAbove, values_among}
+use Rattle.rec_match.specs.Forests.{IsForest, IsFoundBy, NoneBefore, StandAbove, values_among}
 use Rattle.rec_match.specs.Ordered.{numbers_in}
 use Rattle.rec_match.specs.Rows.{values_of}
 use Rattle.rec_sorts.specs.SpecRules.{fault}
+use Rattle.rec_match.specs.declared.forest.Glance.{Glance}
+use Rattle.rec_match.specs.declared.forest.Glance.TheVariants.{Found as Hits, Left}
 use Rattle.rec_match.specs.declared.forest.Hit.{Hit}
 use Rattle.rec_match.specs.declared.matcher.LeftSide.{LeftSide}
 use Rattle.rec_match.specs.declared.matcher.Matcher.{Matcher}
@@ -141,3 +143,18 @@ FindsOn w m first at old new (Some found) =
     × FindsFor w m at old (values_among m.forest first new found.values) (Some found.rule)
     × IsFoundBy m.forest found
 FindsOn w m first at old new None = FindsFor w m at old [] None × (new ≡ old)
+
+-- the first rule of a symbol
+abbrev pub first_rule : Matcher → ℕ → ℕ
+first_rule m k = get_or m.heads.items k 0
+
+-- so many of a symbol's trees find no rule for the last references of a list
+abbrev pub LeavesOthers : Store → Matcher → ℕ → ℕ → ℕ → List Term → Type 0
+LeavesOthers w m k count n work = NoneBefore w m.forest k 0 (drop (length work - count) work) n
+
+-- what a first look among all rules of a symbol finds for the last references of a list, and what
+-- is left of it then
+abbrev pub Glances : Store → Matcher → ℕ → ℕ → List Term → List Term → Glance → Type 0
+Glances w m k count old new (Hits hit) =
+    FindsOn w m (length old - count) (first_rule m k) old new (Some hit)
+Glances w m k count old new (Left n) = LeavesOthers w m k count n old × (new ≡ old)

@@ -13,6 +13,7 @@ mod parts;
 mod path;
 mod places;
 mod push;
+mod registers;
 mod rows;
 mod settling;
 mod shares;
@@ -20,8 +21,8 @@ mod switch;
 mod trees;
 mod write;
 
-pub use forest::{Child, Forest, Hit, Node, Place, Values};
+pub use forest::{Child, Forest, Glance, Hit, Node, Place, Values};
 pub use matcher::{LeftSide, Matcher};
 pub use parts::{Code, CodeRow, Part, Parts};
 pub use places::Places;
-pub use settling::{move_down, settle};
+pub use settling::{move_down, settle, settle_over};

@@ -8,8 +8,9 @@ ghost use Rattle.rec_sorts.specs.Linked.{NumberOf};
 ghost use Rattle.rec_match.specs.Forests.{IsWithin, StandAbove, value_in, values_among};
 ghost use Rattle.rec_match.specs.Next.{AreLater, AreReady, Answers, Reaches};
 
-use crate::forest::{Place, Values, push_arguments};
+use crate::forest::{Place, Values};
 use crate::matcher::Matcher;
+use crate::registers::push_arguments;
 use rx_term::{Kind, Symbol, Term, TermBank};
 use smallvec::SmallVec;
 use std::alloc::AllocError;

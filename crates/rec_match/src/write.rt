@@ -89,7 +89,9 @@ impl Forest {
         let Ok(from) = u32::try_from(self.children.len()) else {
             return Err(AllocError);
         };
-        let span = window.len() as u64;
+        let Ok(span) = u32::try_from(window.len()) else {
+            return Err(AllocError);
+        };
         self.children.extend_from_slice(window)?;
         self.nodes[node as usize] = Node::Switch {
             register,

@@ -17,5 +17,5 @@ returns-clause-finds g c =
     let m = c.args.self.now in
     let work = c.args.work.now.items in
     let size = c.len.ensures ∙ c.args.work.now.ok.0 in
-    run-finds w m c.args.symbol c.args.count c.args.at work c.run.new.work.items (c.len.result - c.args.count) c.run.result c.requires.can
+    run-finds w m c.args.symbol c.args.count work c.run.new.work.items (c.len.result - c.args.count) c.run.result c.args.at c.requires.can
     (ap (λ n. n - c.args.count) size) c.run.ensures.runs c.run.ensures.same

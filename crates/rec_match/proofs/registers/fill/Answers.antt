@@ -3,8 +3,8 @@ use Rattle.std.proofs.Math.Seq.{drop-length}
 use Rattle.rec_match.proofs.FillLemmas.{Filling, filling-first, filling-done, first-within, first-filled}
 use Rattle.rec_match.proofs.FillLemmas.{again-within, again-there, again-filled, again-differs}
 use Rattle.rec_match.proofs.RunLemmas.{cut_back}
-use Rattle.rec_match.proofs.forest.fill.Goals as goal
-use Rattle.rec_match.proofs.forest.fill.Goals.{in-First, in-Again+else-index}
+use Rattle.rec_match.proofs.registers.fill.Goals as goal
+use Rattle.rec_match.proofs.registers.fill.Goals.{in-First, in-Again+else-index}
 
 pub loop-place-init : goal.loop-place-init
 loop-place-init c =
