@@ -233,14 +233,17 @@ impl TermBank for SharedBank {
         }
     }
 
+    #[inline(always)]
     fn head(&self, t: Term) -> Term {
         Term(self.first(t) as u32)
     }
 
+    #[inline(always)]
     fn tail(&self, t: Term) -> Term {
         Term(self.second(t) as u32)
     }
 
+    #[inline(always)]
     fn args(&self, t: Term) -> Term {
         Term(self.second(t) as u32)
     }
@@ -249,6 +252,7 @@ impl TermBank for SharedBank {
         Term(self.first(t) as u32)
     }
 
+    #[inline(always)]
     fn anns(&self, t: Term) -> Option<Term> {
         match self.face(t).anns {
             Some(slot) => Some(Term(slot.0)),
