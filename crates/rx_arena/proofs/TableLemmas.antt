@@ -156,6 +156,12 @@ pub resized : {A : Type 0} (xs : List A) (x : A) (n m : ℕ) → n ≡ length xs
 resized xs x n m e f = let more : n + 1024 - m ≡ 1024 = omega (arith, e, f) in
     λ i. take_all (n + 1024) xs (omega (arith, e)) i ++ replicate (more i) x
 
+-- a new list that is made longer
+pub filled : {A : Type 0} (xs : List A) (x : A) (n m : ℕ) → xs ≡ [] → m ≡ 0 → take n xs ++ replicate (n - m) x ≡ replicate n x
+filled xs x n m none at =
+    let rest : n - m ≡ n = omega (arith, at) in
+    (λ i. take_all n xs (omega (arith, ap length none)) i ++ replicate (rest i) x) ∙ ap (λ ys. ys ++ replicate n x) none
+
 -- a list from which what was added is taken away again
 pub cut-grown : {A : Type 0} (xs mid new : List A) (x : A) (n : ℕ) → n ≡ length xs → mid ≡ xs ++ replicate 1024 x → new ≡ take n mid → new ≡ xs
 cut-grown xs mid new x n e is cut = cut ∙ ap (take n) is ∙ take-append-le n xs (replicate 1024 x) (omega (arith, e)) ∙ take_all n xs (omega (arith, e))

@@ -1,6 +1,7 @@
 -- What the proofs speak of inside this crate: no public contract cites it.
 pub mod Block
 pub mod Blocks
+pub mod Heads
 pub mod Held
 pub mod Links
 pub mod Node

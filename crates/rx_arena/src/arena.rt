@@ -21,8 +21,8 @@ ghost use Rattle.rx_arena.specs.Arena.{IsFirst, is_unmarked, IsArena, empty_aren
 
 use crate::faces::word;
 use crate::fault::ArenaFault;
+use crate::heads::Heads;
 use crate::pool::Pool;
-use crate::slot_table::SlotTable;
 use crate::{CellBody, Slot};
 use std::alloc::Global;
 use std::marker::Model;
@@ -32,7 +32,7 @@ use std::marker::Model;
 pub struct Arena {
     alloc: Global,
     pool: Pool,
-    heads: SlotTable,
+    heads: Heads,
     gray_first: Option<u32>,
     linked: u32,
     ghost chained: { Chained (links (λ n. n.chain) pool.cells)
@@ -82,7 +82,7 @@ impl Arena {
         ensures law { IfOk result IsArena }
         ensures fault { IfErr result (λ e. e ≡ ArenaFault.Memory) }
     {
-        let heads = SlotTable::new(alloc, chains)?;
+        let heads = Heads::new(alloc, chains, chains, false)?;
         let pool = Pool::new(alloc, cap);
         Ok(Arena {
             alloc,
@@ -114,7 +114,7 @@ impl Arena {
         ensures count { result ≡ length self.now.chains }
         ensures law { IsArena self.now }
     {
-        self.heads.len() as u32
+        self.heads.len()
     }
 
     /// The chain that a hash names.

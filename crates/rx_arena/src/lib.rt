@@ -31,6 +31,7 @@ pub mod arena;
 mod cells;
 pub mod faces;
 mod fault;
+mod heads;
 mod pool;
 mod room;
 mod slot_table;

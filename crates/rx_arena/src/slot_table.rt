@@ -41,13 +41,10 @@ impl SlotTable {
         ensures fault { IfErr result (λ e. e ≡ ArenaFault.Memory) }
     {
         let mut numbers = Vec::new(alloc);
-        numbers
-            .reserve(count as usize)
-            .map_err(|_| ArenaFault::Memory)?;
-        for i in 0..count {
-            numbers.push(NO_SLOT).map_err(|_| ArenaFault::Memory)?;
+        match numbers.resize(count as usize, NO_SLOT) {
+            Ok(()) => Ok(SlotTable { numbers }),
+            Err(_) => Err(ArenaFault::Memory),
         }
-        Ok(SlotTable { numbers })
     }
 
     /// Adds the entries of a block, with no slot in any.
@@ -58,13 +55,6 @@ impl SlotTable {
         let entries = self.numbers.len();
         self.numbers.resize(entries + BLOCK, NO_SLOT)?;
         Ok(())
-    }
-
-    /// How many entries there are.
-    pub(crate) fn len(&self) -> usize
-        ensures { result ≡ length self.now }
-    {
-        self.numbers.len()
     }
 
     /// The slot at an entry.

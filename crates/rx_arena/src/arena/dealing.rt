@@ -13,7 +13,10 @@ ghost use Rattle.rx_arena.specs.Arena.{times_hashed, IsArena};
 use crate::Slot;
 use crate::arena::{Arena, home};
 use crate::fault::ArenaFault;
-use crate::slot_table::SlotTable;
+use crate::heads::Heads;
+
+/// How many slots are looked at for how the heads of chains are spread.
+const SAMPLE: u32 = 1024;
 
 impl Arena {
     /// Keeps the first chains alone, where the others are empty.
@@ -22,7 +25,7 @@ impl Arena {
         ensures after { self.new ≡ record self.old { chains = take count self.old.chains } }
         ensures law { IsArena self.new }
     {
-        self.heads.truncate(count as usize);
+        self.heads.truncate(count);
     }
 
     /// Moves each slot of a chain to the one of the first `count` chains that its hash names.
@@ -60,17 +63,18 @@ impl Arena {
         self.keep_chains(1);
     }
 
-    /// The heads of so many empty chains.
-    fn empty_heads(&self, count: u32) -> Result<SlotTable, ArenaFault>
-        ensures ok { IfOk result (λ h. h ≡ replicate count None) }
+    /// The heads of so many empty chains, and of one more.
+    fn empty_heads(&self, chains: u32) -> Result<Heads, ArenaFault>
+        requires { chains ≤ 2 ^ 30 }
+        ensures ok { IfOk result (λ h. h ≡ replicate (chains + 1) None) }
         ensures fault { IfErr result (λ e. e ≡ ArenaFault.Memory) }
         ensures law { IsArena self.now }
     {
-        SlotTable::new(self.alloc, count)
+        Heads::new(self.alloc, chains + 1, chains, self.heads.is_annotated())
     }
 
     /// Puts the one chain behind `count` empty ones, whose heads these are, with one for its own.
-    fn put_behind(&mut self, empty: SlotTable, count: u32)
+    fn put_behind(&mut self, empty: Heads, count: u32)
         requires one { length self.old.chains ≡ 1 }
         requires empty { empty ≡ replicate (count + 1) None }
         requires count { count ≤ 2 ^ 30 }
@@ -95,7 +99,7 @@ impl Arena {
         ensures fault { IfErr result (λ e. e ≡ ArenaFault.Memory) }
         ensures law { IsArena self.new }
     {
-        let empty = self.empty_heads(chains + 1)?;
+        let empty = self.empty_heads(chains)?;
         self.gather();
         self.put_behind(empty, chains);
         self.move_chain(chains, chains);
@@ -103,15 +107,29 @@ impl Arena {
         Ok(())
     }
 
-    /// Puts `count` empty chains in place of the chains.
-    fn clear_chains(&mut self, count: u32) -> Result<(), ArenaFault>
+    /// Whether a third of the last slots below `end` have annotations.
+    fn has_annotated(&self, end: u32) -> bool
+        requires { (s : ℕ) → s < end → IsTaken self.now s }
+    {
+        let mut annotated: u32 = 0;
+        for slot in end.saturating_sub(SAMPLE)..end {
+            if self.read(Slot(slot)).anns.is_some() {
+                annotated = annotated.saturating_add(1);
+            }
+        }
+        annotated > SAMPLE / 3
+    }
+
+    /// Puts `count` empty chains in place of the chains, spread for cells with annotations or for
+    /// others.
+    fn clear_chains(&mut self, count: u32, annotated: bool) -> Result<(), ArenaFault>
         requires { count ≤ 2 ^ 30 }
         ensures ok { OnOk result (self.new ≡ record self.old { chains = replicate count [] }) }
         ensures err { OnErr result (self.new ≡ self.old) }
         ensures fault { IfErr result (λ e. e ≡ ArenaFault.Memory) }
         ensures law { IsArena self.new }
     {
-        let heads = SlotTable::new(self.alloc, count)?;
+        let heads = Heads::new(self.alloc, count, count, annotated)?;
         self.heads = heads;
         self.linked = 0;
         Ok(())
@@ -150,7 +168,8 @@ impl Arena {
         ensures fault { IfErr result (λ e. e ≡ ArenaFault.Memory) }
         ensures law { IsArena self.new }
     {
-        self.clear_chains(chains)?;
+        let annotated = self.has_annotated(end);
+        self.clear_chains(chains, annotated)?;
         self.deal_slots(end, chains);
         Ok(())
     }

@@ -13,8 +13,8 @@ get-head-requires c =
     let one = subst (λ (v : ArenaState). length v.chains ≡ 1) (sym c.self.view_is) c.requires.one in
     within_heads c.self.inside c.self.invariant 0 (omega (arith, one))
 
-pub set-requires-clause-entry : goal.set-requires-clause-entry
-set-requires-clause-entry c =
+pub set-requires-clause-chain : goal.set-requires-clause-chain
+set-requires-clause-chain c =
     let none : Option ℕ = None in
     let long = ap length c.requires.empty in
     omega (arith, long, length-replicate (c.args.count + 1) none)
