@@ -78,6 +78,36 @@ impl Hints {
         }
     }
 
+    /// Replaces the entry of a slot, where it says that nothing names the slot.
+    #[inline(always)]
+    fn raise(&mut self, slot: u64, last: u32)
+        requires { 0 < last }
+        ensures stays { Stays self.old.last.items self.new.last.items }
+        ensures here { 0 < entry self.new.last.items slot }
+    {
+        if self.get(slot) == 0 {
+            self.set(slot, last);
+        }
+    }
+
+    /// Sets the entries of what the words of a cell with annotations name, where they say that
+    /// nothing names it: the others lead to cells without annotations, which are looked up by them.
+    #[inline(always)]
+    fn raise_words(&mut self, kind: u8, a: u64, b: u64, last: u32)
+        requires { 0 < last }
+        ensures stays { Stays self.old.last.items self.new.last.items }
+        ensures covers { CoversSlots self.new.last.items (words kind a b) }
+    {
+        if kind == LIST {
+            self.raise(a, last);
+            self.raise(b, last);
+        } else if kind == APPLICATION {
+            self.raise(b, last);
+        } else if kind == PLACEHOLDER {
+            self.raise(a, last);
+        }
+    }
+
     /// Sets the entries of what a cell's words name: a list's head keeps one where the tail's leads
     /// to the cell.
     #[inline(always)]
@@ -120,7 +150,11 @@ impl Hints {
     {
         self.clear(slot);
         self.cover_annotations(body.anns, slot + 1);
-        self.cover_words(body.kind, body.a, body.b, slot + 1);
+        if body.anns.is_none() {
+            self.cover_words(body.kind, body.a, body.b, slot + 1);
+        } else {
+            self.raise_words(body.kind, body.a, body.b, slot + 1);
+        }
     }
 
     /// 0 where no taken cell has this body, as nothing was made over a slot that it names; or else
@@ -146,13 +180,25 @@ impl Hints {
         }
     }
 
-    /// Whether no taken cell has this body, as it is a list node's and nothing was made over its
-    /// head or its tail.
+    /// Whether there are annotations, and nothing was made over them.
+    #[inline(always)]
+    fn is_unnamed(&self, anns: Option<Slot>) -> bool
+        ensures { IsTrue result → ¬ (CoversSlots self.now.last.items (annotations anns)) }
+    {
+        match anns {
+            Some(slot) => self.get(u64::from(slot.0)) == 0,
+            None => false,
+        }
+    }
+
+    /// Whether no taken cell has this body, as nothing was made over its annotations, or it is a
+    /// list node's and nothing was made over its head or its tail.
     #[inline(always)]
     pub(crate) fn rules_out(&self, body: CellBody) -> bool
         ensures { IsTrue result → ¬ (Covers self.now.last.items body) }
     {
-        body.kind == LIST && (self.get(body.a) == 0 || self.get(body.b) == 0)
+        self.is_unnamed(body.anns)
+            || body.kind == LIST && (self.get(body.a) == 0 || self.get(body.b) == 0)
     }
 
     /// The slot by whose entry a body is looked up: the tail of a list, or the head where the tail
@@ -166,7 +212,7 @@ impl Hints {
         }
     }
 
-    /// Remembers where a body lies.
+    /// Remembers where a body lies, unless it has annotations, as such a one is not looked up so.
     #[inline(always)]
     pub(crate) fn point(&mut self, body: CellBody, slot: u32)
         requires { slot < 4294967295 }
@@ -174,7 +220,7 @@ impl Hints {
     {
         if body.kind == EMPTY {
             self.empty = slot;
-        } else if body.kind >= LIST {
+        } else if body.kind >= LIST && body.anns.is_none() {
             self.set(self.key(body), slot + 1);
         }
     }
