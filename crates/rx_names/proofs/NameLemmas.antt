@@ -1,5 +1,5 @@
 -- A table of names as a map of symbols.
-use Rattle.std.proofs.Common.{ℕ, zero, suc, ◌≡◌, ◌≢◌, true, ◌&&◌, List, [], ◌∷◌, ◌++◌, length, Option, Some, None}
+use Rattle.std.proofs.Common.{ℕ, zero, suc, ◌≡◌, ◌≢◌, Bool, true, false, not, ◌&&◌, List, [], ◌∷◌, ◌++◌, length, Option, Some, None}
 use Rattle.std.proofs.Common.{IsSome, is_some, refl, sym, ap, ◌∙◌, subst, inl, inr, arith, slice_get, nat_eq}
 use Rattle.std.specs.Prelude.{Decides, MatchOption, Result, Ok, Err}
 use Rattle.std.specs.Ordering.{nat_cmp}
@@ -114,6 +114,32 @@ push-other (x ∷ xs) e (suc t) ne = push-other xs e t (λ q. ne (omega (arith, 
 pub says-entry : (ws : List (List ℕ)) (e : Entry) (g : Signature) → slice_get ws e.word ≡ Some g.name → e.quoted ≡ g.quoted → e.arity ≡ g.arity
     → signature_in ws e ≡ Some g
 says-entry ws e g p q r = rw p (ap (λ z. Some z) (λ i. let h : Signature = record { name = g.name; quoted = q i; arity = r i } in h))
+
+-- two flags that are not told apart
+pub same_flag : (x y : Bool) → not (beq x y) ≡ false → x ≡ y
+same_flag true true h = refl
+same_flag true false h = cc
+same_flag false true h = cc
+same_flag false false h = refl
+
+-- what an entry that was read says of its place
+pub entry_there : (n : Names) (place : ℕ) (e : Entry) (read : List Entry) → read ≡ n.entries.keys → slice_get read place ≡ Some e
+    → slice_get n.entries.keys place ≡ Some e
+entry_there n place e read same at = ap (λ es. slice_get es place) (sym same) ∙ at
+
+-- an entry's word is there
+pub allowed_there : (o : Option (List ℕ)) (quoted : Bool) → is_allowed_word o quoted ≡ true → IsSome o
+allowed_there None quoted h = cc
+allowed_there (Some w) quoted h = refl
+
+-- a symbol that stands for a signature already is the one that taking it in gives
+pub Interns-there : (n : Names) (s : Symbol) (g : Signature) → map.get (symbols_of n) s.0 ≡ Some g → Interns (symbols_of n) (symbols_of n) g s
+Interns-there n s g here = record {
+  added = here;
+  only = λ t held. (table n).apart t s.0 g held here;
+  others = λ t ne. refl;
+  there = λ held. refl;
+}
 
 -- an entry put in, or found
 module _ (ws : List (List ℕ)) (es new : List Entry) (e : Entry) (place : ℕ) (placed : Placed es new e) (at : slice_get new place ≡ Some e) where

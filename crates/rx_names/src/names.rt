@@ -1,7 +1,7 @@
 //! The table of names: a symbol for each name, quoted flag and number of arguments.
 
-ghost use Rattle.std.specs.Prelude.{◌≡◌, ◌≢◌, ◌<◌, ℕ, MatchOption, IsSome, IfOk, Some, length};
-ghost use Rattle.std.specs.Prelude.{slice_get};
+ghost use Rattle.std.specs.Prelude.{◌≡◌, ◌≢◌, ◌<◌, ℕ, MatchOption, IsSome, IsTrue, IfOk, Some};
+ghost use Rattle.std.specs.Prelude.{length, slice_get};
 ghost use Rattle.rx_names.specs.Places.{AreApart};
 ghost use Rattle.rx_names.specs.Words.{words_of};
 ghost use Rattle.rx_names.specs.Entries.{AllAllowed};
@@ -20,6 +20,20 @@ struct Entry {
     arity: u32,
 }
 
+/// How many symbols are remembered.
+const RECENT: usize = 64;
+
+/// Where the symbol of a name and a number of arguments is remembered.
+fn home(name: &[u8], arity: u32) -> usize
+    ensures { result < 64 }
+{
+    let last = match name.last() {
+        Some(byte) => usize::from(*byte),
+        None => 0,
+    };
+    (last ^ name.len().wrapping_mul(8) ^ (arity as usize).wrapping_mul(32)) % RECENT
+}
+
 /// The entry at a place.
 fn entry_at(entries: &[Entry], place: usize) -> Entry
     requires { place < length entries.now }
@@ -28,11 +42,12 @@ fn entry_at(entries: &[Entry], place: usize) -> Entry
     entries[place]
 }
 
-/// Names and their symbols, which stay until the end.
+/// Names and their symbols, which stay until the end; and the places of some that were asked for.
 #[derive(Drop)]
 pub struct Names {
     words: Words,
     entries: IndexSet<Entry>,
+    recent: [usize; RECENT],
     ghost apart: { AreApart entries.keys },
     ghost allowed: { AllAllowed (words_of words) entries.keys },
 }
@@ -49,6 +64,7 @@ impl Names {
         Ok(Names {
             words: Words::new(alloc),
             entries: IndexSet::new(alloc),
+            recent: [0; RECENT],
         })
     }
 
@@ -89,8 +105,27 @@ impl Names {
         (self.words.get(entry.word), entry.quoted, entry.arity)
     }
 
-    /// The symbol, made where it is not there.
-    pub fn intern(&mut self, name: &[u8], quoted: bool, arity: u32) -> Result<Symbol, NamesFault>
+    /// Whether the symbol with this number is there, and stands for these.
+    fn is_symbol(&self, place: usize, name: &[u8], quoted: bool, arity: u32) -> bool
+        ensures { IsTrue result → get (symbols_of self.now) place
+            ≡ Some (record { name = name.now; quoted = quoted; arity = arity }) }
+    {
+        let entries = self.entries.as_slice();
+        if place >= entries.len() {
+            return false;
+        }
+        let entry = entry_at(entries, place);
+        if entry.quoted != quoted {
+            return false;
+        }
+        if entry.arity != arity {
+            return false;
+        }
+        self.words.get(entry.word) == name
+    }
+
+    /// The symbol, looked for among the entries.
+    fn intern_entry(&mut self, name: &[u8], quoted: bool, arity: u32) -> Result<Symbol, NamesFault>
         requires { IsAllowed name.now quoted }
         ensures { InternsOrRefuses (symbols_of self.old) (symbols_of self.new)
             (record { name = name.now; quoted = quoted; arity = arity }) result }
@@ -108,5 +143,21 @@ impl Names {
             Ok((place, _)) => Ok(Symbol(place as u64)),
             Err(_) => Err(NamesFault::Memory),
         }
+    }
+
+    /// The symbol, made where it is not there.
+    pub fn intern(&mut self, name: &[u8], quoted: bool, arity: u32) -> Result<Symbol, NamesFault>
+        requires { IsAllowed name.now quoted }
+        ensures { InternsOrRefuses (symbols_of self.old) (symbols_of self.new)
+            (record { name = name.now; quoted = quoted; arity = arity }) result }
+    {
+        let home = home(name, arity);
+        let place = self.recent[home];
+        if self.is_symbol(place, name, quoted, arity) {
+            return Ok(Symbol(place as u64));
+        }
+        let symbol = self.intern_entry(name, quoted, arity)?;
+        self.recent[home] = symbol.0 as usize;
+        Ok(symbol)
     }
 }
