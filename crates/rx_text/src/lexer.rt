@@ -56,6 +56,7 @@ fn is_decimal(byte: u8) -> bool
 }
 
 /// The first offset from `from` on at which no layout stands.
+#[inline(always)]
 fn after_layout(bytes: &[u8], from: usize) -> usize
     requires { from ≤ length bytes.now }
     ensures above { from ≤ result }
@@ -85,6 +86,7 @@ fn digits_end(bytes: &[u8], from: usize) -> usize
 }
 
 /// The end of the bytes that go on a name from `from` on.
+#[inline(always)]
 fn name_end(bytes: &[u8], from: usize) -> usize
     requires { from ≤ length bytes.now }
     ensures above { from ≤ result }
@@ -154,6 +156,7 @@ fn quoted_word(bytes: &[u8], from: usize) -> (LexemeKind, usize)
 }
 
 /// The mark that a byte is, or a bad token.
+#[inline(always)]
 fn mark_of(byte: u8) -> LexemeKind
     ensures token { (bytes : List ℕ) → token_of bytes result ≡ mark byte }
     ensures kind { IsMark result }
@@ -173,6 +176,7 @@ fn mark_of(byte: u8) -> LexemeKind
 }
 
 /// The token that begins at `at`, and its end.
+#[inline(always)]
 fn token(bytes: &[u8], at: usize) -> (LexemeKind, usize)
     requires at { at < length bytes.now }
     requires short { length bytes.now ≤ longest }
@@ -207,6 +211,7 @@ fn token(bytes: &[u8], at: usize) -> (LexemeKind, usize)
 }
 
 /// The first token from `from` on.
+#[inline(always)]
 pub fn next(bytes: &[u8], from: usize) -> Lexeme
     requires from { from ≤ length bytes.now }
     requires short { length bytes.now ≤ longest }

@@ -72,6 +72,7 @@ pub struct Reader<'a> {
 
 impl<'a> Reader<'a> {
     /// Where a term is due.
+    #[inline(always)]
     fn start(&mut self, token: LexemeKind) -> Result<Due, Stop>
         requires state { IsAt Due.AtTerm self.old }
         requires token { IsToken self.old.bytes.now token }
@@ -101,6 +102,7 @@ impl<'a> Reader<'a> {
     }
 
     /// What was open, and is no longer on the stack, ends at its mark.
+    #[inline(always)]
     fn close(&mut self, frame: Frame, token: LexemeKind) -> Result<Due, Stop>
         requires stack { IsStack self.old.bytes.now (held frame.opening frame.count)
             self.old.frames.items self.old.nodes.items }
@@ -142,6 +144,7 @@ impl<'a> Reader<'a> {
     }
 
     /// Behind the mark that opened something: its end, or its first item.
+    #[inline(always)]
     fn first(&mut self, opening: Opening, token: LexemeKind) -> Result<Due, Stop>
         requires state { IsAt (Due.First opening) self.old }
         requires token { IsToken self.old.bytes.now token }
@@ -164,6 +167,7 @@ impl<'a> Reader<'a> {
     }
 
     /// One more item of what is open, and a comma.
+    #[inline(always)]
     fn next_item(&mut self) -> Result<Due, Stop>
         requires state { IsAt Due.Whole self.old }
         requires few { node_count Due.Whole self.old ≤ longest }
@@ -185,6 +189,7 @@ impl<'a> Reader<'a> {
     }
 
     /// One more item of what is open, and a mark that ends it.
+    #[inline(always)]
     fn end_item(&mut self, token: LexemeKind) -> Result<Due, Stop>
         requires state { IsAt Due.Whole self.old }
         requires few { node_count Due.Whole self.old ≤ longest }
@@ -209,6 +214,7 @@ impl<'a> Reader<'a> {
     }
 
     /// The end of a placeholder.
+    #[inline(always)]
     fn end_placeholder(&mut self) -> Result<Due, Stop>
         requires state { IsAt Due.Whole self.old }
         requires few { node_count Due.Whole self.old ≤ longest }
@@ -227,6 +233,7 @@ impl<'a> Reader<'a> {
     }
 
     /// Behind a term with its annotations.
+    #[inline(always)]
     fn whole(&mut self, token: LexemeKind) -> Result<Due, Stop>
         requires state { IsAt Due.Whole self.old }
         requires token { IsToken self.old.bytes.now token }
@@ -253,6 +260,7 @@ impl<'a> Reader<'a> {
     }
 
     /// Behind a term to which annotations may come.
+    #[inline(always)]
     fn body(&mut self, token: LexemeKind) -> Result<Due, Stop>
         requires state { IsAt Due.Body self.old }
         requires token { IsToken self.old.bytes.now token }
@@ -268,6 +276,7 @@ impl<'a> Reader<'a> {
     }
 
     /// Behind a name.
+    #[inline(always)]
     fn after_name(&mut self, word: Word, token: LexemeKind) -> Result<Due, Stop>
         requires state { IsAt (Due.Named word) self.old }
         requires token { IsToken self.old.bytes.now token }
@@ -287,6 +296,7 @@ impl<'a> Reader<'a> {
     }
 
     /// The next token.
+    #[inline(always)]
     fn step(&mut self, due: Due, token: LexemeKind) -> Result<Due, Stop>
         requires state { IsAt due self.old }
         requires token { IsToken self.old.bytes.now token }
