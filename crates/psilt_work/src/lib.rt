@@ -24,6 +24,3 @@ pub use bank::Bank;
 pub use fault::Fault;
 pub use handle::Psilt;
 pub use work::Work;
-
-#[cfg(test)]
-mod tests;

@@ -9,6 +9,3 @@ pub mod staying;
 pub mod texts;
 
 pub use faults::{EvaluationFault, SpecFault, WorkFault};
-
-#[cfg(test)]
-mod tests;

@@ -1,7 +1,7 @@
 //! The rows of each test: calls, and what they were worked out to come to by hand.
 
-use crate::Fault;
-use crate::tests::asking::{Call, Due, Row};
+use crate::calls::asking::{Call, Due, Row};
+use psilt_work::Fault;
 
 /// Addition, with two terms to evaluate.
 const ADD: &[u8] = b"REC-SPEC Add SORTS Nat \

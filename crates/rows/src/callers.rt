@@ -1,15 +1,11 @@
-//! Each caller over the plain bank, with answers that were worked out by hand.
+//! The callers of `uses` over the plain bank, with answers that were worked out by hand.
+#![tactic(auto, using(rx_term::proofs::StoreLemmas::bank_steps))]
 
 ghost use Rattle.rx_term.specs.declared.Term.{Term};
 ghost use Rattle.rx_term.specs.Tree.{Tree};
 ghost use Rattle.rec_engine.specs.Engine.{IsGiven, Spells};
 ghost use Rattle.uses.specs.Kept.{IsProtected, KeepsRoots};
 
-use crate::evaluating::{admit, engine_over, own_value_text, specification_of, value_text};
-use crate::keeping::keep;
-use crate::rewriting::{pattern, rewrite};
-use crate::staying::{answer, kept_value, let_go, request};
-use crate::texts::{name_at, read_back, text_of};
 use rec_engine::Engine;
 use rec_sorts::{Checked, Letter};
 use rx_pattern::Pattern;
@@ -18,6 +14,11 @@ use rx_term::{Term, TermBank};
 use rx_text::read;
 use std::alloc::Global;
 use std::process::Abort;
+use uses::evaluating::{admit, engine_over, own_value_text, specification_of, value_text};
+use uses::keeping::keep;
+use uses::rewriting::{pattern, rewrite};
+use uses::staying::{answer, kept_value, let_go, request};
+use uses::texts::{name_at, read_back, text_of};
 
 /// Its sum takes two steps by the second rule and one by the first.
 const ADDITION: &[u8] = b"REC-SPEC Addition SORTS Nat \

@@ -1,7 +1,7 @@
 //! What rows ask of a work, and how their answers are compared.
 
-use crate::evaluating::Normalised;
-use crate::{Fault, Work};
+use psilt_work::evaluating::Normalised;
+use psilt_work::{Fault, Work};
 use rx_term::{Kind, Term};
 use std::alloc::Global;
 use std::process::Abort;

@@ -1,4 +1,4 @@
-//! Each call with ample memory, beside what was worked out by hand.
+//! Each call of the C library with ample memory, beside what was worked out by hand.
 
 ghost use Rattle.std.specs.Prelude.{◌≡◌, None};
 ghost use Rattle.psilt_work.specs.Handles.{work_of};
@@ -6,8 +6,8 @@ ghost use Rattle.psilt_work.specs.Handles.{work_of};
 mod asking;
 mod rows;
 
-use crate::{Fault, Psilt, Work};
 use asking::{Row, ask};
+use psilt_work::{Fault, Psilt, Work};
 use std::alloc::Global;
 use std::process::Abort;
 

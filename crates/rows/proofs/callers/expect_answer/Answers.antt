@@ -1,5 +1,5 @@
 use Rattle.uses.proofs.RootLemmas.{roots_kept}
-use Rattle.uses.proofs.tests.expect_answer.Goals as goal
+use Rattle.rows.proofs.callers.expect_answer.Goals as goal
 
 pub returns : goal.returns
 returns g c = roots_kept (g.B.TermBank.store c.args.engine.now.bank) (g.B.TermBank.store c.answer.new.engine.bank)
