@@ -55,6 +55,9 @@ def try_texts():
         found = recw("share", "--dot", "--nodes", str(2 * cells), input=text)
         nodes, edges = found[1].count("];\n  n"), found[1].count(" -> ")
         check(f"{what}: the graph", (0, True, ""), (found[0], nodes - edges == cells, found[2]))
+    levels = "a{" * MANY + "a" + "}" * MANY
+    is_whole("levels of annotations", f"{levels}\n", "aterm", input=levels)
+    is_whole("levels of annotations", f"{levels}\ncells {2 * MANY + 2}\n", "share", input=levels)
     laid = "[\n " + items.replace(",", ",\n ") + "\n]\n"
     is_whole("elements on lines", laid, "aterm", "--indent", "1", input=f"[{items}]")
 
