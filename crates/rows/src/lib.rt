@@ -1,4 +1,5 @@
-//! Worked rows of the layers below the runner: what their public calls answer, as tests.
+//! Worked rows of the layers below the runner, as tests: what their public calls answer, and what
+//! callers make of them.
 #![tactic(auto)]
 
 #[cfg(test)]

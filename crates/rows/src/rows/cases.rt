@@ -90,9 +90,16 @@ fn ask_over<B: TermBank + Drop>(rt: &impl Abort, alloc: Global, case: &Case, ban
 }
 
 /// Stops where the engine of a case answers otherwise.
-pub fn expect_case(rt: &impl Abort, alloc: Global, case: &Case) {
+fn expect_case(rt: &impl Abort, alloc: Global, case: &Case) {
     match case.bank {
         Bank::Plain(cells) => ask_over(rt, alloc, case, plain_bank(rt, alloc, cells)),
         Bank::Shared(cells) => ask_over(rt, alloc, case, shared_bank(rt, alloc, cells)),
+    }
+}
+
+/// Stops where the engine of one of some cases answers otherwise.
+pub fn expect_cases(rt: &impl Abort, alloc: Global, cases: &[&Case]) {
+    for case in cases {
+        expect_case(rt, alloc, case);
     }
 }

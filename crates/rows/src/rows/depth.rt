@@ -1,6 +1,6 @@
 //! How many calls may wait at once.
 
-use crate::rows::cases::{Bank, Case, OPTIONS, Question, expect_case};
+use crate::rows::cases::{Bank, Case, OPTIONS, Question, expect_cases};
 use crate::rows::engine::{ADD, End, HIT, PAIR, Row, SUM, expect_rows, has_ended, value_of};
 use crate::rows::values::{ADDITION, SUCCESSOR, ZERO, apply_to, constant};
 use rec_engine::{DepthFault, Engine, Outcome};
@@ -132,16 +132,6 @@ pub fn ask<B: TermBank>(rt: &impl Abort, alloc: Global, engine: &mut Engine<B>, 
 }
 
 #[test]
-fn calls_that_wait(rt: HostRuntime) {
-    expect_case(&rt, rt.alloc(), &CALLS);
-}
-
-#[test]
-fn last_calls_that_wait_for_nothing(rt: HostRuntime) {
-    expect_case(&rt, rt.alloc(), &LAST_CALLS);
-}
-
-#[test]
-fn calls_on_values_that_wait(rt: HostRuntime) {
-    expect_case(&rt, rt.alloc(), &CALLS_ON_VALUES);
+fn calls_wait(rt: HostRuntime) {
+    expect_cases(&rt, rt.alloc(), &[&CALLS, &LAST_CALLS, &CALLS_ON_VALUES]);
 }

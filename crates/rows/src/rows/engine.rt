@@ -1,7 +1,7 @@
 //! The engine over both banks.
 
 use crate::rows::banks::text_of;
-use crate::rows::cases::{ANEW, Bank, Case, OPTIONS, Question, REMEMBERING, expect_case};
+use crate::rows::cases::{ANEW, Bank, Case, OPTIONS, Question, REMEMBERING, expect_cases};
 use rec_engine::{DepthFault, Engine, EngineFault, Options, Outcome};
 use rx_term::{Term, TermBank};
 use std::alloc::Global;
@@ -347,50 +347,23 @@ pub fn ask<B: TermBank>(rt: &impl Abort, alloc: Global, engine: &mut Engine<B>, 
     }
 }
 
-#[test]
-fn ground_terms(rt: HostRuntime) {
-    expect_case(&rt, rt.alloc(), &GROUND_TERMS);
-    expect_case(&rt, rt.alloc(), &GROUND_TERMS_ANEW);
-}
+/// How terms end, and what a bank has cells for.
+const CASES: [&Case; 12] = [
+    &VALUES,
+    &CONDITIONS,
+    &LIMITS,
+    &GROUND_TERMS,
+    &GROUND_TERMS_ANEW,
+    &REPEATED,
+    &REPEATED_BESIDE_ONE,
+    &REPEATED_ANEW,
+    &REMEMBERED,
+    &CELLS_OF_A_TERM,
+    &CELLS_OF_A_VALUE,
+    &EARLIER_TERMS,
+];
 
 #[test]
-fn repeated_calls(rt: HostRuntime) {
-    expect_case(&rt, rt.alloc(), &REPEATED);
-    expect_case(&rt, rt.alloc(), &REPEATED_BESIDE_ONE);
-    expect_case(&rt, rt.alloc(), &REPEATED_ANEW);
-}
-
-#[test]
-fn remembered_results(rt: HostRuntime) {
-    expect_case(&rt, rt.alloc(), &REMEMBERED);
-}
-
-#[test]
-fn values(rt: HostRuntime) {
-    expect_case(&rt, rt.alloc(), &VALUES);
-}
-
-#[test]
-fn conditions(rt: HostRuntime) {
-    expect_case(&rt, rt.alloc(), &CONDITIONS);
-}
-
-#[test]
-fn limits(rt: HostRuntime) {
-    expect_case(&rt, rt.alloc(), &LIMITS);
-}
-
-#[test]
-fn cells_of_a_term(rt: HostRuntime) {
-    expect_case(&rt, rt.alloc(), &CELLS_OF_A_TERM);
-}
-
-#[test]
-fn cells_of_a_value(rt: HostRuntime) {
-    expect_case(&rt, rt.alloc(), &CELLS_OF_A_VALUE);
-}
-
-#[test]
-fn earlier_terms_are_reclaimed(rt: HostRuntime) {
-    expect_case(&rt, rt.alloc(), &EARLIER_TERMS);
+fn terms_end(rt: HostRuntime) {
+    expect_cases(&rt, rt.alloc(), &CASES);
 }

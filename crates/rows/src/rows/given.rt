@@ -113,10 +113,6 @@ fn expect_rows(rt: &impl Abort, alloc: Global, rows: &[Row]) {
 #[test]
 fn broken_rules(rt: HostRuntime) {
     expect_rows(&rt, rt.alloc(), &BROKEN);
-}
-
-#[test]
-fn kept(rt: HostRuntime) {
     expect_rows(&rt, rt.alloc(), &KEPT);
 }
 
@@ -215,11 +211,7 @@ fn ask_spec(rt: &impl Abort, alloc: Global, spec: &str, question: &Question) {
 }
 
 #[test]
-fn the_first_that_is_broken(rt: HostRuntime) {
+fn terms_one_by_one(rt: HostRuntime) {
     ask_spec(&rt, rt.alloc(), Q, &Question::First);
-}
-
-#[test]
-fn letters_in_order(rt: HostRuntime) {
     ask_spec(&rt, rt.alloc(), ADD, &Question::Letters);
 }

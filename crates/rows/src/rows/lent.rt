@@ -4,9 +4,7 @@
 ghost use Rattle.std.specs.Prelude.{◌≡◌, ◌∷◌, []};
 
 use crate::rows::banks::expect_text;
-use crate::rows::cases::{Bank, Case, OPTIONS, Question, expect_case};
-use crate::rows::engine::ADD;
-use crate::rows::values::{ADDITION, SUCCESSOR, Values, ZERO, apply_to, constant};
+use crate::rows::values::{ADDITION, SUCCESSOR, ZERO, apply_to, constant};
 use rec_engine::Engine;
 use rx_term::{Term, TermBank};
 use smallvec::SmallVec;
@@ -86,16 +84,4 @@ pub fn makes_values_on<B: TermBank>(rt: &impl Abort, alloc: Global, engine: &mut
     assert!(rt; rule_with_room(rt, alloc, engine, sum) == Some(1));
     let list = list_above(rt, alloc, engine, (one, sum));
     expect_text(rt, alloc, engine.bank(), list, b"[add(s(z),z)]");
-}
-
-const MADE_ON: Case = Case {
-    spec: ADD,
-    options: OPTIONS,
-    bank: Bank::Shared(100),
-    question: Question::Values(Values::MakeOn),
-};
-
-#[test]
-fn values_on_a_stack_that_is_lent(rt: HostRuntime) {
-    expect_case(&rt, rt.alloc(), &MADE_ON);
 }

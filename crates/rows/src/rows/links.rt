@@ -87,17 +87,15 @@ fn expect_spec(rt: &impl Abort, alloc: Global, spec: &str, linked: &Linked) {
     expect_linked(rt, alloc, &checked, linked);
 }
 
-#[test]
-fn addition(rt: HostRuntime) {
-    expect_spec(&rt, rt.alloc(), ADD, &Linked::Addition);
-}
+const LINKED: [(&str, Linked); 3] = [
+    (ADD, Linked::Addition),
+    (PRIMED, Linked::Primed),
+    (ADD, Linked::Foreign),
+];
 
 #[test]
-fn quoted_where_no_plain_name(rt: HostRuntime) {
-    expect_spec(&rt, rt.alloc(), PRIMED, &Linked::Primed);
-}
-
-#[test]
-fn foreign_symbols_have_no_number(rt: HostRuntime) {
-    expect_spec(&rt, rt.alloc(), ADD, &Linked::Foreign);
+fn symbols_have_numbers(rt: HostRuntime) {
+    for (spec, linked) in &LINKED {
+        expect_spec(&rt, rt.alloc(), spec, linked);
+    }
 }

@@ -119,7 +119,12 @@ fn link<B: TermBank>(rt: &impl Abort, alloc: Global, bank: &mut B, checked: &Che
 }
 
 /// The matcher of a checked specification, whose symbols the bank gets.
-fn build<B: TermBank>(rt: &impl Abort, alloc: Global, bank: &mut B, checked: &Checked) -> Matcher
+pub fn build<B: TermBank>(
+    rt: &impl Abort,
+    alloc: Global,
+    bank: &mut B,
+    checked: &Checked,
+) -> Matcher
     ensures ready { AreReady (B.store bank.new) result }
     ensures same { HasMoreSymbols (B.store bank.old) (B.store bank.new) }
 {
@@ -203,15 +208,7 @@ fn expect_rows(rt: &impl Abort, alloc: Global, spec: &[u8], rows: &[Row]) {
 #[test]
 fn overlapping_rules(rt: HostRuntime) {
     expect_rows(&rt, rt.alloc(), OVL, &OVERLAPPING);
-}
-
-#[test]
-fn overlapping_rules_of_pairs(rt: HostRuntime) {
     expect_rows(&rt, rt.alloc(), PAIRS, &OVERLAPPING_PAIRS);
-}
-
-#[test]
-fn what_no_rule_matches(rt: HostRuntime) {
     expect_rows(&rt, rt.alloc(), OVL, &UNMATCHED);
 }
 
@@ -236,14 +233,11 @@ fn trees(rt: &impl Abort, alloc: Global, spec: &[u8], number: usize) -> usize {
     trees_in(rt, alloc, &checked, number)
 }
 
+/// The rules of pairs have one tree. The symbol `w` has number 2, and for it one tree would have a
+/// leaf for each set of its arguments.
 #[test]
-fn the_rules_of_pairs_have_a_tree(rt: HostRuntime) {
+fn trees_of_rules(rt: HostRuntime) {
     assert!(rt; trees(&rt, rt.alloc(), PAIRS, 3) == 1);
-}
-
-/// The symbol `w` has number 2. One tree would have a leaf for each set of its arguments.
-#[test]
-fn the_rules_of_many_arguments_have_a_tree_each(rt: HostRuntime) {
     let spec = wide(&rt, rt.alloc());
     assert!(rt; trees(&rt, rt.alloc(), &spec, 2) == 20);
 }

@@ -1,6 +1,6 @@
 //! What an engine counts of its evaluations, and whom it tells of them.
 
-use crate::rows::cases::{ANEW, Bank, Case, OPTIONS, Question, REMEMBERING, expect_case};
+use crate::rows::cases::{ANEW, Bank, Case, OPTIONS, Question, REMEMBERING, expect_cases};
 use crate::rows::engine::{
     ADD, COND, End, FAST, FAST_STEPS, HIT, ONE, PAIR, Row, SUM, TWENTY, TWO, ZERO, count_values,
     expect_rows, has_ended,
@@ -319,30 +319,19 @@ const RECLAIMS_COUNTED: Case = Case {
     question: Question::Observed(Counts::Reclaims),
 };
 
-#[test]
-fn ends_that_are_told(rt: HostRuntime) {
-    expect_case(&rt, rt.alloc(), &ENDS_TOLD);
-    expect_case(&rt, rt.alloc(), &ENDS_TOLD_WITHOUT_ROOM);
-}
+/// What is told, and what is counted.
+const CASES: [&Case; 8] = [
+    &ENDS_TOLD,
+    &ENDS_TOLD_WITHOUT_ROOM,
+    &RULES_TOLD,
+    &RULES_COUNTED,
+    &CALLS_COUNTED,
+    &RESULTS_COUNTED,
+    &CELLS_COUNTED,
+    &RECLAIMS_COUNTED,
+];
 
 #[test]
-fn rules_that_are_told(rt: HostRuntime) {
-    expect_case(&rt, rt.alloc(), &RULES_TOLD);
-}
-
-#[test]
-fn rules_that_are_counted(rt: HostRuntime) {
-    expect_case(&rt, rt.alloc(), &RULES_COUNTED);
-    expect_case(&rt, rt.alloc(), &CALLS_COUNTED);
-}
-
-#[test]
-fn results_that_are_counted(rt: HostRuntime) {
-    expect_case(&rt, rt.alloc(), &RESULTS_COUNTED);
-}
-
-#[test]
-fn cells_that_are_counted(rt: HostRuntime) {
-    expect_case(&rt, rt.alloc(), &CELLS_COUNTED);
-    expect_case(&rt, rt.alloc(), &RECLAIMS_COUNTED);
+fn evaluations_are_observed(rt: HostRuntime) {
+    expect_cases(&rt, rt.alloc(), &CASES);
 }

@@ -189,17 +189,9 @@ fn expect_bound(rt: &impl Abort, alloc: Global, rows: &[Bound]) {
 }
 
 #[test]
-fn bindings_in_order(rt: HostRuntime) {
+fn terms_are_bound(rt: HostRuntime) {
     expect_bound(&rt, rt.alloc(), &IN_ORDER);
-}
-
-#[test]
-fn kinds_of_placeholders(rt: HostRuntime) {
     expect_bound(&rt, rt.alloc(), &OF_KINDS);
-}
-
-#[test]
-fn what_is_not_matched(rt: HostRuntime) {
     expect_bound(&rt, rt.alloc(), &UNMATCHED);
 }
 
@@ -299,11 +291,7 @@ fn expect_made(rt: &impl Abort, alloc: Global, rows: &[Made]) {
 }
 
 #[test]
-fn terms_in_their_places(rt: HostRuntime) {
+fn terms_are_made(rt: HostRuntime) {
     expect_made(&rt, rt.alloc(), &MADE);
-}
-
-#[test]
-fn terms_that_are_refused(rt: HostRuntime) {
     expect_made(&rt, rt.alloc(), &UNMADE);
 }

@@ -184,17 +184,9 @@ fn expect_kinds(rt: &impl Abort, alloc: Global, rows: &[(&str, &[TokenKind])]) {
 }
 
 #[test]
-fn expected_in_declarations(rt: HostRuntime) {
+fn expected_tokens(rt: HostRuntime) {
     expect_kinds(&rt, rt.alloc(), &DECLARED);
-}
-
-#[test]
-fn expected_in_terms(rt: HostRuntime) {
     expect_kinds(&rt, rt.alloc(), &TERMS);
-}
-
-#[test]
-fn nothing_is_expected_of_a_specification(rt: HostRuntime) {
     assert!(rt; expected_kinds(&rt, rt.alloc(), ADDITION).is_empty());
 }
 
@@ -208,10 +200,6 @@ fn a_text_that_is_kept(rt: HostRuntime) {
     let spec = read_text_owned(&rt, rt.alloc(), ADDITION).expect(&rt, "a specification");
     assert!(rt; spec.source() == ADDITION.as_slice());
     assert!(rt; spec.rules().len() == 2);
-}
-
-#[test]
-fn a_kept_text_outside_the_grammar(rt: HostRuntime) {
     assert!(rt; place(read_text_owned(&rt, rt.alloc(), &ADDITION[..184])) == Some(184));
 }
 
@@ -287,13 +275,9 @@ fn blank(rt: &impl Abort, alloc: Global, length: usize) -> Vec<u8> {
 }
 
 #[test]
-fn the_longest(rt: HostRuntime) {
-    let text = blank(&rt, rt.alloc(), 16_777_216);
-    assert!(rt; read_spec(rt.alloc(), &text).is_ok());
-}
-
-#[test]
-fn one_that_is_too_long(rt: HostRuntime) {
-    let text = blank(&rt, rt.alloc(), 16_777_217);
-    assert!(rt; is_long(read_spec(rt.alloc(), &text)));
+fn long_texts(rt: HostRuntime) {
+    let longest = blank(&rt, rt.alloc(), 16_777_216);
+    assert!(rt; read_spec(rt.alloc(), &longest).is_ok());
+    let longer = blank(&rt, rt.alloc(), 16_777_217);
+    assert!(rt; is_long(read_spec(rt.alloc(), &longer)));
 }

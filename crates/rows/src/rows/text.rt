@@ -158,34 +158,21 @@ fn ask(rt: &impl Abort, alloc: Global, cells: u32, question: &Question) {
     }
 }
 
-#[test]
-fn places(rt: HostRuntime) {
-    ask(&rt, rt.alloc(), 10, &Question::Places);
-}
+/// How many cells a bank has, and what it is asked.
+const ASKED: [(u32, Question); 6] = [
+    (10, Question::Places),
+    (1000, Question::Printed),
+    (2, Question::NoRoom),
+    (3, Question::Full),
+    (100, Question::Room),
+    (10, Question::Long),
+];
 
 #[test]
-fn printed_texts(rt: HostRuntime) {
-    ask(&rt, rt.alloc(), 1000, &Question::Printed);
-}
-
-#[test]
-fn two_million_brackets(rt: HostRuntime) {
-    ask(&rt, rt.alloc(), 2, &Question::NoRoom);
-}
-
-#[test]
-fn a_full_bank(rt: HostRuntime) {
-    ask(&rt, rt.alloc(), 3, &Question::Full);
-}
-
-#[test]
-fn a_writer_that_stops(rt: HostRuntime) {
-    ask(&rt, rt.alloc(), 100, &Question::Room);
-}
-
-#[test]
-fn too_long(rt: HostRuntime) {
-    ask(&rt, rt.alloc(), 10, &Question::Long);
+fn texts_of_terms(rt: HostRuntime) {
+    for (cells, question) in &ASKED {
+        ask(&rt, rt.alloc(), *cells, question);
+    }
 }
 
 /// What may stand where a text leaves the grammar.
@@ -202,18 +189,10 @@ fn expect_kinds(rt: &impl Abort, alloc: Global, rows: &[(&str, &[TokenKind])]) {
 }
 
 #[test]
-fn expected_where_a_term_is_due(rt: HostRuntime) {
+fn expected_tokens(rt: HostRuntime) {
     expect_kinds(&rt, rt.alloc(), &BEGINS);
-}
-
-#[test]
-fn expected_behind_a_term(rt: HostRuntime) {
     expect_kinds(&rt, rt.alloc(), &BEHIND);
-}
-
-#[test]
-fn nothing_is_expected_of_a_term(rt: HostRuntime) {
-    assert!(rt; expected_kinds(&rt, rt.alloc(), b"f(a,[1,2]){b}").is_empty());
+    expect_kinds(&rt, rt.alloc(), &[("f(a,[1,2]){b}", &[])]);
 }
 
 /// Two million opening brackets, and as many closing ones.

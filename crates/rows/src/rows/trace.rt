@@ -4,7 +4,7 @@ ghost use Rattle.rec_engine.specs.Engine.{SameEngine};
 ghost use Rattle.rec_trace.specs.Tracing.{IsEvent, Stands};
 
 use crate::rows::banks::expect_text;
-use crate::rows::cases::{ANEW, Bank, Case, Question, expect_case};
+use crate::rows::cases::{ANEW, Bank, Case, Question, expect_cases};
 use rec_engine::Engine;
 use rec_trace::{Event, Tracer, Turn};
 use rx_term::TermBank;
@@ -251,7 +251,7 @@ fn trace_nothing<B: TermBank>(rt: &impl Abort, alloc: Global, engine: &mut Engin
 }
 
 /// What is traced.
-#[derive(Drop)]
+#[derive(Clone, Copy)]
 pub enum Traced {
     Sum,
     WholeTerms,
@@ -285,37 +285,19 @@ fn case(traced: Traced) -> Case {
     }
 }
 
-#[test]
-fn sums(rt: HostRuntime) {
-    expect_case(&rt, rt.alloc(), &case(Traced::Sum));
-}
+const TRACES: [Traced; 7] = [
+    Traced::Sum,
+    Traced::WholeTerms,
+    Traced::Condition,
+    Traced::Events,
+    Traced::Unwritten,
+    Traced::ConditionEvents,
+    Traced::Nothing,
+];
 
 #[test]
-fn whole_terms_of_a_trace(rt: HostRuntime) {
-    expect_case(&rt, rt.alloc(), &case(Traced::WholeTerms));
-}
-
-#[test]
-fn conditions(rt: HostRuntime) {
-    expect_case(&rt, rt.alloc(), &case(Traced::Condition));
-}
-
-#[test]
-fn events(rt: HostRuntime) {
-    expect_case(&rt, rt.alloc(), &case(Traced::Events));
-}
-
-#[test]
-fn unwritten_contracta(rt: HostRuntime) {
-    expect_case(&rt, rt.alloc(), &case(Traced::Unwritten));
-}
-
-#[test]
-fn events_behind_conditions(rt: HostRuntime) {
-    expect_case(&rt, rt.alloc(), &case(Traced::ConditionEvents));
-}
-
-#[test]
-fn limits(rt: HostRuntime) {
-    expect_case(&rt, rt.alloc(), &case(Traced::Nothing));
+fn terms_are_traced(rt: HostRuntime) {
+    for traced in &TRACES {
+        expect_cases(&rt, rt.alloc(), &[&case(*traced)]);
+    }
 }

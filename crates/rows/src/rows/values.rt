@@ -4,7 +4,7 @@ ghost use Rattle.std.specs.Prelude.{◌≡◌, IsSome};
 ghost use Rattle.rx_term.specs.Store.{tree_at};
 
 use crate::rows::banks::expect_text;
-use crate::rows::cases::{Bank, Case, OPTIONS, Question, expect_case};
+use crate::rows::cases::{Bank, Case, OPTIONS, Question, expect_cases};
 use crate::rows::engine::{ADD, TWENTY, is_room, outcome_of, value_of};
 use crate::rows::lent::makes_values_on;
 use rec_engine::{Engine, Outcome};
@@ -174,6 +174,14 @@ const MADE: Case = Case {
     question: Question::Values(Values::Make),
 };
 
+/// On a stack that is lent.
+const MADE_ON: Case = Case {
+    spec: ADD,
+    options: OPTIONS,
+    bank: Bank::Shared(100),
+    question: Question::Values(Values::MakeOn),
+};
+
 const CALLED: Case = Case {
     spec: ADD,
     options: OPTIONS,
@@ -207,21 +215,7 @@ pub fn ask<B: TermBank>(rt: &impl Abort, alloc: Global, engine: &mut Engine<B>, 
 }
 
 #[test]
-fn values_that_are_made(rt: HostRuntime) {
-    expect_case(&rt, rt.alloc(), &MADE);
-}
-
-#[test]
-fn calls_on_values(rt: HostRuntime) {
-    expect_case(&rt, rt.alloc(), &CALLED);
-}
-
-#[test]
-fn rules_of_an_engine(rt: HostRuntime) {
-    expect_case(&rt, rt.alloc(), &RULES);
-}
-
-#[test]
-fn protected_values(rt: HostRuntime) {
-    expect_case(&rt, rt.alloc(), &PROTECTED);
+fn values_are_used(rt: HostRuntime) {
+    let cases = &[&MADE, &MADE_ON, &CALLED, &RULES, &PROTECTED];
+    expect_cases(&rt, rt.alloc(), cases);
 }

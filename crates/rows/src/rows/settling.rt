@@ -1,0 +1,108 @@
+//! Values that come to stand where they are wanted.
+
+ghost use Rattle.std.specs.Prelude.{◌≡◌, ◌-◌, nat_lt, length};
+ghost use Rattle.std.specs.List.{list_all};
+
+use rec_match::{move_down, settle, settle_over};
+use rx_term::Term;
+use std::alloc::Global;
+use std::process::Abort;
+
+/// Registers, which are counted from a place of ten references on, where their values come to
+/// stand, and what is there then.
+type Row = (&'static [u32], usize, usize, &'static [u32]);
+
+const SETTLED: [Row; 9] = [
+    (&[], 2, 1, &[0]),
+    (&[1], 2, 1, &[0, 3]),
+    (&[1, 0], 2, 2, &[0, 1, 3, 2]),
+    (&[1, 2, 0], 2, 2, &[0, 1, 3, 4, 2]),
+    (&[3, 2, 1, 0], 2, 1, &[0, 5, 4, 3, 2]),
+    (&[4, 3, 2, 1, 0], 2, 2, &[0, 1, 6, 5, 4, 3, 2]),
+    (&[0], 0, 10, &[0, 1, 2, 3, 4, 5, 6, 7, 8, 9, 0]),
+    (&[9, 8], 0, 9, &[0, 1, 2, 3, 4, 5, 6, 7, 8, 9, 8]),
+    (&[3, 3, 3], 6, 8, &[0, 1, 2, 3, 4, 5, 6, 7, 9, 9, 9]),
+];
+
+/// Where references stand, where they go, and what is there then.
+const MOVED: [(usize, usize, &[u32]); 3] = [
+    (8, 1, &[0, 8, 9]),
+    (10, 2, &[0, 1]),
+    (0, 0, &[0, 1, 2, 3, 4, 5, 6, 7, 8, 9]),
+];
+
+/// Ten references, each of the number of its place.
+const TEN: [Term; 10] = [
+    Term(0),
+    Term(1),
+    Term(2),
+    Term(3),
+    Term(4),
+    Term(5),
+    Term(6),
+    Term(7),
+    Term(8),
+    Term(9),
+];
+
+/// The same in a vector.
+fn ten(rt: &impl Abort, alloc: Global) -> Vec<Term>
+    ensures { length result.items ≡ 10 }
+{
+    Vec::from_slice(alloc, &TEN).expect(rt, "memory")
+}
+
+/// Stops where the references are others.
+fn expect_numbers(rt: &impl Abort, work: &[Term], wanted: &[u32]) {
+    assert!(rt; work.len() == wanted.len());
+    for (term, number) in work.iter().zip(wanted) {
+        assert!(rt; term.0 == *number);
+    }
+}
+
+/// Whether all registers are among so many.
+fn are_there(registers: &[u32], count: usize) -> bool
+    ensures { result ≡ list_all (λ r. nat_lt r count) registers.now }
+{
+    registers
+        .iter()
+        .all(|register| (*register as usize) < count)
+}
+
+/// Stops where the values of registers come to stand otherwise, by either function.
+fn expect_settled(rt: &impl Abort, alloc: Global, row: &Row, is_over: bool) {
+    let (registers, first, to, wanted) = *row;
+    let mut work = ten(rt, alloc);
+    assert!(rt; first <= 10 && to <= 10);
+    assert!(rt; are_there(registers, 10 - first));
+    let done = if is_over {
+        settle_over(registers, first, to, &mut work)
+    } else {
+        settle(registers, first, to, &mut work)
+    };
+    assert!(rt; done.is_ok());
+    expect_numbers(rt, &work, wanted);
+}
+
+#[test]
+fn values_settle(rt: HostRuntime) {
+    for row in &SETTLED {
+        expect_settled(&rt, rt.alloc(), row, false);
+        expect_settled(&rt, rt.alloc(), row, true);
+    }
+}
+
+/// Stops where references that move down leave others.
+fn expect_moved(rt: &impl Abort, alloc: Global, from: usize, to: usize, wanted: &[u32]) {
+    let mut work = ten(rt, alloc);
+    assert!(rt; to <= from && from <= 10);
+    move_down(&mut work, to, from);
+    expect_numbers(rt, &work, wanted);
+}
+
+#[test]
+fn references_move_down(rt: HostRuntime) {
+    for (from, to, wanted) in &MOVED {
+        expect_moved(&rt, rt.alloc(), *from, *to, *wanted);
+    }
+}
