@@ -21,19 +21,24 @@ fn ask_anew(rt: &impl Abort, alloc: Global, cells: u32, rows: &[Row]) {
     ask(rt, alloc, &mut store(rt, alloc, cells), rows);
 }
 
-#[test]
-fn terms_are_made(rt: HostRuntime) {
-    ask_anew(&rt, rt.alloc(), 100, &rows::MAKES);
-}
+/// How many cells a store has, and what it is asked.
+const ASKED: [(u32, &[Row]); 9] = [
+    (100, &rows::MAKES),
+    (100, &rows::PARTS),
+    (100, &rows::KEEPS),
+    (1_000, &rows::EVALUATES),
+    (1_000, &rows::REMEMBERS),
+    (100, &rows::MATCHES),
+    (100, &rows::REFUSED_PATTERNS),
+    (100, &rows::FORGETS_BINDINGS),
+    (100, &rows::APPLIES),
+];
 
 #[test]
-fn terms_are_taken_apart(rt: HostRuntime) {
-    ask_anew(&rt, rt.alloc(), 100, &rows::PARTS);
-}
-
-#[test]
-fn terms_are_kept(rt: HostRuntime) {
-    ask_anew(&rt, rt.alloc(), 100, &rows::KEEPS);
+fn calls_of_a_store(rt: HostRuntime) {
+    for (cells, rows) in &ASKED {
+        ask_anew(&rt, rt.alloc(), *cells, rows);
+    }
 }
 
 /// Whether a buffer takes the text `f`, and its second byte stays.
@@ -57,16 +62,6 @@ fn refuses(rt: &impl Abort, alloc: Global, work: &mut Work) {
 #[test]
 fn texts_are_refused(rt: HostRuntime) {
     refuses(&rt, rt.alloc(), &mut store(&rt, rt.alloc(), 100));
-}
-
-#[test]
-fn terms_are_evaluated(rt: HostRuntime) {
-    ask_anew(&rt, rt.alloc(), 1_000, &rows::EVALUATES);
-}
-
-#[test]
-fn results_are_remembered(rt: HostRuntime) {
-    ask_anew(&rt, rt.alloc(), 1_000, &rows::REMEMBERS);
 }
 
 /// Whether nothing can be taken out of a handle, which is closed then.
@@ -100,24 +95,4 @@ fn a_handle_is_opened_and_closed(rt: HostRuntime) {
     opens_and_closes(&rt, rt.alloc(), &mut Psilt::new());
     assert!(&rt; is_refused(rt.alloc(), 0));
     assert!(&rt; is_refused(rt.alloc(), 1_073_741_825));
-}
-
-#[test]
-fn patterns_match(rt: HostRuntime) {
-    ask_anew(&rt, rt.alloc(), 100, &rows::MATCHES);
-}
-
-#[test]
-fn patterns_are_refused(rt: HostRuntime) {
-    ask_anew(&rt, rt.alloc(), 100, &rows::REFUSED_PATTERNS);
-}
-
-#[test]
-fn bindings_are_forgotten(rt: HostRuntime) {
-    ask_anew(&rt, rt.alloc(), 100, &rows::FORGETS_BINDINGS);
-}
-
-#[test]
-fn symbols_are_applied(rt: HostRuntime) {
-    ask_anew(&rt, rt.alloc(), 100, &rows::APPLIES);
 }

@@ -1,4 +1,5 @@
-//! Worked rows of whole runs: what they write for which texts, as tests.
+//! Worked rows as tests: what whole runs write for which texts, and what each call of the C library
+//! comes to.
 #![tactic(auto)]
 
 #[cfg(test)]

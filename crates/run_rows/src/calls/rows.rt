@@ -13,7 +13,7 @@ const ADD: &[u8] = b"REC-SPEC Add SORTS Nat \
 const TWICE: &[u8] = b"REC-SPEC A SORTS B B CONS OPNS VARS RULES EVAL END-SPEC";
 
 /// The first calls of a store.
-pub(crate) static MAKES: [Row; 14] = [
+pub(crate) const MAKES: [Row; 14] = [
     (Call::Int(-7), &[], Due::Kept("seven")),
     (Call::Nil, &[], Due::Kept("nil")),
     (Call::Cons, &["seven", "nil"], Due::Kept("list")),
@@ -35,7 +35,7 @@ pub(crate) static MAKES: [Row; 14] = [
 ];
 
 /// The parts of a term.
-pub(crate) static PARTS: [Row; 21] = [
+pub(crate) const PARTS: [Row; 21] = [
     (
         Call::Read(b"\"a b\"(1,[2,3],<int>){n}"),
         &[],
@@ -64,7 +64,7 @@ pub(crate) static PARTS: [Row; 21] = [
 ];
 
 /// Eleven cells of three terms, of which eight stay.
-pub(crate) static KEEPS: [Row; 14] = [
+pub(crate) const KEEPS: [Row; 14] = [
     (Call::Read(b"f(1)"), &[], Due::Kept("kept")),
     (Call::Read(b"[2,3]"), &[], Due::Kept("rooted")),
     (Call::Read(b"g(4)"), &[], Due::Kept("gone")),
@@ -82,7 +82,7 @@ pub(crate) static KEEPS: [Row; 14] = [
 ];
 
 /// What is refused of a text.
-pub(crate) static REFUSES: [Row; 5] = [
+pub(crate) const REFUSES: [Row; 5] = [
     (Call::Read(b"f(1,,2)"), &[], Due::Not(Fault::Syntax)),
     (Call::Place, &[], Due::Number(4)),
     (Call::Cells, &[], Due::Number(0)),
@@ -91,7 +91,7 @@ pub(crate) static REFUSES: [Row; 5] = [
 ];
 
 /// A term of the handle's own store is evaluated, whose value is a term of it too.
-pub(crate) static EVALUATES: [Row; 32] = [
+pub(crate) const EVALUATES: [Row; 32] = [
     (Call::Specify(ADD, 0, 1_000), &[], Due::Done),
     (Call::Read(b"plus(s(z),s(z)){note}"), &[], Due::Kept("t")),
     (Call::Read(b"s(s(z)){note}"), &[], Due::Kept("two")),
@@ -137,7 +137,7 @@ pub(crate) static EVALUATES: [Row; 32] = [
 ];
 
 /// What is remembered of terms that are given up is forgotten.
-pub(crate) static REMEMBERS: [Row; 8] = [
+pub(crate) const REMEMBERS: [Row; 8] = [
     (Call::Specify(ADD, 1_024, 1), &[], Due::Done),
     (Call::Read(b"plus(s(s(z)),s(s(z)))"), &[], Due::Kept("t")),
     (Call::Normalise(9), &["t"], Due::Done),
@@ -153,7 +153,7 @@ pub(crate) static REMEMBERS: [Row; 8] = [
 ];
 
 /// Two patterns at once, one of which is let go.
-pub(crate) static MATCHES: [Row; 22] = [
+pub(crate) const MATCHES: [Row; 22] = [
     (Call::Pattern(b"f(<int>,<list>)"), &[], Due::Kept("pair")),
     (Call::Pattern(b"<appl>"), &[], Due::Kept("other")),
     (Call::IsOne, &["pair", "other"], Due::Flag(false)),
@@ -187,7 +187,7 @@ pub(crate) static MATCHES: [Row; 22] = [
 ];
 
 /// What is refused of a pattern, of a match and of a make.
-pub(crate) static REFUSED_PATTERNS: [Row; 19] = [
+pub(crate) const REFUSED_PATTERNS: [Row; 19] = [
     (Call::Pattern(b"f(1,,2)"), &[], Due::Not(Fault::Syntax)),
     (Call::Place, &[], Due::Number(4)),
     (Call::Rule, &[], Due::Number(0)),
@@ -222,7 +222,7 @@ pub(crate) static REFUSED_PATTERNS: [Row; 19] = [
 ];
 
 /// A binding is known until terms are given up.
-pub(crate) static FORGETS_BINDINGS: [Row; 9] = [
+pub(crate) const FORGETS_BINDINGS: [Row; 9] = [
     (Call::Pattern(b"<term>"), &[], Due::Kept("pattern")),
     (Call::Read(b"f(1)"), &[], Due::Kept("t")),
     (Call::MatchTerm, &["pattern", "t"], Due::Number(1)),
@@ -235,7 +235,7 @@ pub(crate) static FORGETS_BINDINGS: [Row; 9] = [
 ];
 
 /// Symbols by their numbers.
-pub(crate) static APPLIES: [Row; 19] = [
+pub(crate) const APPLIES: [Row; 19] = [
     (Call::Symbol(b"f", false, 2), &[], Due::Kept("f")),
     (Call::Symbol(b"f", true, 2), &[], Due::Kept("g")),
     (Call::IsOne, &["f", "g"], Due::Flag(false)),
