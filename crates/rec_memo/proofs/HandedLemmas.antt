@@ -1,5 +1,5 @@
 -- References with what a memo hands over.
-use Rattle.std.proofs.Common.{List, IsSome, Contains, inl, inr, sym, subst}
+use Rattle.std.proofs.Common.{List, IsSome, inl, inr, sym, subst}
 use Rattle.rx_term.specs.declared.Term.{Term}
 use Rattle.rx_term.specs.Store.{Store, tree_at}
 use Rattle.rx_term.specs.Walks.{AllHeld}

@@ -15,6 +15,12 @@ const OLD: Mark = Mark {
     second: false,
 };
 
+/// The mark of a set of which that is not known.
+const NEW: Mark = Mark {
+    first: true,
+    second: true,
+};
+
 /// Of each set, which entries were put or used since all of them were last old.
 #[derive(Drop)]
 pub struct Newest {
@@ -28,6 +34,17 @@ impl Newest {
     pub(crate) fn new(alloc: Global, sets: usize) -> Result<Newest, AllocError> {
         let marks = vec![in alloc; OLD; sets]?;
         Ok(Newest { marks, count: 0 })
+    }
+
+    /// Of so many sets each entry may be new, where there is memory: whether there is.
+    pub(crate) fn widen(&mut self, sets: usize) -> bool {
+        match vec![in *self.marks.allocator(); NEW; sets] {
+            Ok(marks) => {
+                self.marks = marks;
+                true
+            }
+            Err(_) => false,
+        }
     }
 
     /// A new entry comes to the first place of a set. The one that was there goes to the second,
