@@ -74,6 +74,11 @@ runs() {
     rm -f "$tree/runs"
 }
 
+# What was said, without how long it takes.
+without_times() {
+    sed -E 's/(about [1-9][0-9]* minutes|about a minute|less than a minute)/about N minutes/' "$1"
+}
+
 whole="low lib --jobs N
 recw run --jobs N -- --help"
 
@@ -83,7 +88,7 @@ program_ran 'first start' 'eval a  b'
 log=$tree/crates/recw/out/build.log
 same 'first start: lines' "recw: the program is proved and built first, in about N minutes; the log is $log
 recw: proving low (1 of 2), about N minutes left
-recw: proving recw (2 of 2), about N minutes left" "$(sed 's/about [1-9][0-9]* minutes/about N minutes/' "$room/err")"
+recw: proving recw (2 of 2), about N minutes left" "$(without_times "$room/err")"
 same 'first start: runs of rt' "$whole" "$(runs)"
 
 start
@@ -112,7 +117,7 @@ program_ran 'a source was edited' ''
 same 'a source was edited: runs of rt' "$whole" "$(runs)"
 same 'a source was edited: first line' \
     "recw: the program is proved and built first, in about N minutes; the log is $log" \
-    "$(head -n 1 "$room/err" | sed 's/about [1-9] minutes/about N minutes/')"
+    "$(without_times "$room/err" | head -n 1)"
 sleep 0.02
 rm "$tree/crates/low/src/lib.rt"
 start
@@ -127,7 +132,7 @@ start
 same 'not proved: status' 70 "$status"
 same 'not proved: output' '' "$(cat "$room/out")"
 same 'not proved: last lines' "rt at work
-recw: low was not proved; the whole log is $log" "$(tail -n 2 "$room/err")"
+recw: recw was not proved; the whole log is $log" "$(tail -n 2 "$room/err")"
 start
 same 'not proved, again' 70 "$status"
 rm "$tree/status" "$tree/runs"
@@ -137,7 +142,7 @@ program_ran 'proved at last' ''
 make_tree large
 head -c 1000000 /dev/zero >"$tree/crates/low/src/lib.rt"
 start
-same 'minutes grow with the sources' 1 "$(head -n 1 "$room/err" | grep -Ec 'in about [2-4][0-9] minutes; the log')"
+same 'minutes grow with the sources' 1 "$(head -n 1 "$room/err" | grep -Ec 'in about [1-9][0-9] minutes; the log')"
 
 make_tree beside
 mkdir -p "$tree/crates/side/src"
@@ -152,30 +157,51 @@ same 'a crate beside the main line: lines' 2 "$(grep -c proving "$room/err")"
 side lib --jobs N" "$(runs | sort -u)"
 same 'a crate beside the main line: no copy is left' no "$([ -e "$tree/crates/recw/out/build.copies" ] && echo yes || echo no)"
 
-# Of three places the crates beside have two: who has nothing left to begin gives its one back, while
-# the other is still at work.
+# The main line has two jobs, or, where nothing else is left, all processors; each crate beside it
+# has one.
 make_tree places
-mkdir -p "$tree/crates/middle/src" "$tree/crates/quick/src" "$tree/crates/long/src"
-head -c 9000 /dev/zero >"$tree/crates/low/src/lib.rt"
-head -c 9000 /dev/zero >"$tree/crates/middle/src/lib.rt"
-echo code >"$tree/crates/quick/src/lib.rt"
-echo code >"$tree/crates/long/src/lib.rt"
+for crate in middle quick long late; do
+    mkdir -p "$tree/crates/$crate/src"
+    echo code >"$tree/crates/$crate/src/lib.rt"
+done
+head -c 200000 /dev/zero >"$tree/crates/low/src/lib.rt"
+head -c 100000 /dev/zero >"$tree/crates/long/src/lib.rt"
 cat >"$tree/crates.txt" <<'END'
-recw: middle quick long
+recw: middle quick long late
 middle: low
 low:
 quick:
 long:
+late: middle
 END
 printf '#!/bin/sh\necho 3\n' >"$tree/bin/nproc"
 chmod 755 "$tree/bin/nproc"
-echo 2.5 >"$tree/slow.low"
+echo 1 >"$tree/slow.low"
 echo 4 >"$tree/slow.long"
 start
 program_ran 'places' ''
-same 'places: the main line' "low lib --jobs 1
-middle lib --jobs 2" "$(grep -E '^(low|middle) ' "$tree/runs")"
+same 'places: the main line' "low lib --jobs 2
+middle lib --jobs 2
+late lib --jobs 2
+recw run --jobs 3 -- --help" "$(grep -Ev '^(long|quick) ' "$tree/runs")"
+same 'places: beside it' "long lib --jobs 1
+quick lib --jobs 1" "$(grep -E '^(long|quick) ' "$tree/runs" | sort)"
 rm -f "$tree/runs"
+
+# What somebody beside the main line fails to prove is told of.
+make_tree failing
+mkdir -p "$tree/crates/side/src"
+echo code >"$tree/crates/side/src/lib.rt"
+sed -i 's/^recw.*/recw: low side/' "$tree/crates.txt"
+echo 'side:' >>"$tree/crates.txt"
+head -c 1000 /dev/zero >"$tree/crates/low/src/lib.rt"
+echo 1 >"$tree/slow.low"
+sed -i '/^case/i case $PWD in */side) exit 1 ;; esac' "$tree/bin/rt"
+start
+same 'failing: status' 70 "$status"
+same 'failing: last line' "recw: side was not proved; the whole log is $tree/crates/recw/out/build.log" \
+    "$(tail -n 1 "$room/err")"
+same 'failing: low is kept' "$tree/crates/low/out/rlib/stamp" "$(ls "$tree/crates/low/out/rlib/stamp")"
 
 make_tree unproved
 mkdir "$room/texts"
@@ -230,7 +256,7 @@ touch "$tree/crates/recw/out/build.unfinished"
 runs >/dev/null
 start
 program_ran 'a build that broke off' ''
-same 'a build that broke off: runs of rt' "$whole" "$(runs)"
+same 'a build that broke off: runs of rt' 'recw run --jobs N -- --help' "$(runs)"
 
 make_tree bare
 status=0
