@@ -5,6 +5,7 @@ ghost use Rattle.rx_term.specs.Tree.{Tree};
 ghost use Rattle.rx_term.specs.Store.{tree_at};
 ghost use Rattle.rx_term.specs.Steps.{Keeps};
 ghost use Rattle.rec_syntax.specs.Syntax as Syntax;
+ghost use Rattle.rec_sorts.specs.Evaluation.{term_of};
 ghost use Rattle.rec_engine.specs.Inner.Answered.{IsTermCode, IsAnswer, StandsAbove, HasNotes};
 ghost use Rattle.rec_engine.specs.declared.evaluation.Reached.TheVariants.{Deep};
 ghost use Rattle.rec_engine.specs.Machine.{AreFull, IsDeepOnly};
@@ -95,6 +96,49 @@ impl<B: TermBank> Machine<B> {
         Ok(noted)
     }
 
+    /// What a ground term comes to within `n` steps: its code stands behind the code of the rules
+    /// meanwhile. Its ops go by `found`.
+    fn evaluate_given<V: Watch>(
+        &mut self,
+        found: &mut Vec<Op>,
+        t: Term,
+        n: u64,
+        watch: &mut V,
+    ) -> Result<Reached, EngineFault>
+        requires ready { IsReady B.store self.old }
+        requires given { IsGiven self.old.checked.spec (B.store self.old.heap.bank) t }
+        ensures ready { IsReady B.store self.new }
+        ensures spec { self.new.checked.spec ≡ self.old.checked.spec }
+        ensures keeps { Keeps (B.store self.old.heap.bank) (B.store self.new.heap.bank) (t ∷ []) }
+        ensures exact { IfOk result (λ r. (u : Tree)
+            → tree_at (B.store self.old.heap.bank) t ≡ Some u
+            → IsAnswer self.old.checked.spec (B.store self.new.heap.bank) n (term_of u) r) }
+        ensures held { IfOk result (λ r. IsHeld B.store self.new.heap) }
+        ensures stands { IfOk result (StandsAbove self.new.heap.work.items t) }
+        ensures depth { self.new.state.depth ≡ self.old.state.depth }
+        ensures deep { IfOk result (λ r. r ≡ Deep → AreFull self.new.state) }
+        ensures room { RoomOnlyIn B.store self.new result }
+    {
+        self.heap.work.clear();
+        let pc = self.code.ops.len();
+        let stack = &mut self.state.pending;
+        match load(
+            &self.checked,
+            &self.heap.bank,
+            &self.code.links,
+            stack,
+            found,
+            &mut self.code.ops,
+            t,
+        ) {
+            Ok(()) => {}
+            Err(_) => return Err(EngineFault::Memory),
+        }
+        let reached = self.evaluate(pc, t, n, watch);
+        self.code.ops.truncate(pc);
+        reached
+    }
+
     /// What a ground term comes to within `n` steps, with the term's annotations on its value;
     /// nothing where no more calls may wait. Its ops go by `found`.
     pub(crate) fn normalise<V: Watch>(
@@ -118,24 +162,7 @@ impl<B: TermBank> Machine<B> {
         ensures deep { IfOk result (IsDeepOnly self.new.state) }
         ensures room { RoomOnlyIn B.store self.new result }
     {
-        self.heap.work.clear();
-        let pc = self.code.ops.len();
-        let stack = &mut self.state.pending;
-        match load(
-            &self.checked,
-            &self.heap.bank,
-            &self.code.links,
-            stack,
-            found,
-            &mut self.code.ops,
-            t,
-        ) {
-            Ok(()) => {}
-            Err(_) => return Err(EngineFault::Memory),
-        }
-        let reached = self.evaluate(pc, t, n, watch);
-        self.code.ops.truncate(pc);
-        match reached? {
+        match self.evaluate_given(found, t, n, watch)? {
             Reached::Deep => Ok(None),
             Reached::Limit => Ok(Some(Outcome::Limit)),
             Reached::Value { term, steps } => {
