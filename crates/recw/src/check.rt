@@ -37,18 +37,21 @@ pub fn check<H: Files, R: Read, W: Write>(
     evidence: &mut Evidence<'_>,
 ) -> Result<Outcome, RunFault> {
     let mut outcome = Outcome::Done;
-    for index in 0..evidence.invocation.given.len() {
-        let path = match evidence.invocation.given.as_slice().get(index) {
-            Some(path) => *path,
-            None => return Ok(outcome),
-        };
-        match check_file(rt, path, input, out, evidence)? {
-            Judgement::Good => {}
-            Judgement::Warned if !is_strict => {}
-            _ => outcome = Outcome::Faulty,
+    for path in evidence.invocation.given.as_slice() {
+        if is_faulty(check_file(rt, path, input, out, evidence)?, is_strict) {
+            outcome = Outcome::Faulty;
         }
     }
     Ok(outcome)
+}
+
+/// Whether something is wrong with a specification; where `is_strict`, a warning is enough.
+fn is_faulty(judgement: Judgement, is_strict: bool) -> bool {
+    match judgement {
+        Judgement::Good => false,
+        Judgement::Warned => is_strict,
+        _ => true,
+    }
 }
 
 /// Checks the specification in a file or on the standard input.
@@ -59,11 +62,21 @@ fn check_file<'a, H: Files, R: Read, W: Write>(
     out: &mut W,
     evidence: &mut Evidence<'a>,
 ) -> Result<Judgement, RunFault> {
-    let alloc = evidence.alloc;
     let name = name_of(path);
+    let mut file = evidence.note_open(open(rt, Some(path), input), name)?;
+    check_text(&mut file, name, out, evidence)
+}
+
+/// Checks the specification in a text of this name.
+fn check_text<'a, R: Read, W: Write>(
+    text: &mut R,
+    name: TextName<'a>,
+    out: &mut W,
+    evidence: &mut Evidence<'a>,
+) -> Result<Judgement, RunFault> {
+    let alloc = evidence.alloc;
     let shown = shown_name(alloc, name)?;
-    let file = evidence.note_open(open(rt, Some(path), input), name)?;
-    let mut spec = evidence.record(file);
+    let mut spec = evidence.record(text);
     let end = run_check(alloc, &shown, &mut spec, out);
     evidence.note_read(spec.finish(), name);
     end

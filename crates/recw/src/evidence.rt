@@ -1,6 +1,7 @@
 //! What a run leaves for its explanation.
 
 use crate::expected::expected_words;
+use crate::input::{Input, open, open_file};
 use crate::item::{element_of_terms, item_of_args};
 use crate::recorded::{Output, Recorded};
 use crate::report::Outcome;
@@ -12,6 +13,7 @@ use recw_words::{
 use std::alloc::Global;
 use std::io;
 use std::io::{Error, Read, Write};
+use std::rt::Files;
 
 /// A stream that failed, and why.
 #[derive(Clone, Copy)]
@@ -28,7 +30,9 @@ pub struct Evidence<'a> {
     /// The allocator of the texts.
     pub alloc: Global,
     /// What is asked for.
-    pub invocation: Invocation<'a>,
+    pub invocation: &'a Invocation<'a>,
+    /// Whether a refusal is to be explained.
+    pub is_curious: bool,
     /// Behind how many words the one stands that was refused, where it is a given term.
     word: Option<usize>,
     /// The text of the specification, or of the term.
@@ -45,10 +49,11 @@ pub struct Evidence<'a> {
 
 impl<'a> Evidence<'a> {
     /// Nothing so far.
-    pub fn new(alloc: Global, invocation: Invocation<'a>) -> Evidence<'a> {
+    pub fn new(alloc: Global, invocation: &'a Invocation<'a>) -> Evidence<'a> {
         Evidence {
             alloc,
             invocation,
+            is_curious: invocation.explain,
             word: None,
             first: Vec::new(alloc),
             second: Vec::new(alloc),
@@ -56,6 +61,26 @@ impl<'a> Evidence<'a> {
             calls: Vec::new(alloc),
             trouble: None,
         }
+    }
+
+    /// The file that is read first, or the standard input where it stands there; its text is called
+    /// so.
+    pub fn open_first<'i, H: Files, R: Read>(
+        &mut self,
+        rt: &H,
+        input: &'i mut R,
+        source: Source,
+    ) -> Result<Input<'i, R, H::File>, RunFault> {
+        let name = self.name_of(source);
+        let path = self.invocation.request.path();
+        self.note_open(open(rt, path, input), name)
+    }
+
+    /// The file of the specification. Fails where none is named.
+    pub fn open_spec<H: Files>(&mut self, rt: &H) -> Result<H::File, RunFault> {
+        let name = self.name_of(Source::Spec);
+        let path = self.invocation.request.path();
+        self.note_open(open_file(rt, path), name)
     }
 
     /// What was opened under this name. Where it could not be, that is kept, with the reason.
@@ -75,7 +100,7 @@ impl<'a> Evidence<'a> {
 
     /// What the text is called where it is read.
     pub fn name_of(&self, source: Source) -> TextName<'a> {
-        let request = self.invocation.request;
+        let request = &self.invocation.request;
         let path = match (source, self.word) {
             (Source::Pattern, _) => Some("PATTERN"),
             (Source::Args, _) => Some("ARGS"),
@@ -101,8 +126,8 @@ impl<'a> Evidence<'a> {
     }
 
     /// A reader whose text is kept where a refusal is to be explained.
-    pub fn record<R: Read>(&self, input: R) -> Recorded<R> {
-        Recorded::new(self.alloc, input, self.invocation.explain)
+    pub fn record<'r, R: Read>(&self, input: &'r mut R) -> Recorded<'r, R> {
+        Recorded::new(self.alloc, input, self.is_curious)
     }
 
     /// The text that was read under this name. Where a read failed, that is what could not be read,
@@ -115,6 +140,18 @@ impl<'a> Evidence<'a> {
             self.trouble = Some(Trouble { name, error });
         }
         text
+    }
+
+    /// Keeps the text that was read first, which is called so.
+    pub fn keep_first<R: Read>(&mut self, read: Recorded<'_, R>, source: Source) {
+        let name = self.name_of(source);
+        self.first = self.note_read(read.finish(), name);
+    }
+
+    /// Keeps the text of the given terms.
+    pub fn keep_second<R: Read>(&mut self, read: Recorded<'_, R>) {
+        let name = self.name_of(Source::Terms);
+        self.second = self.note_read(read.finish(), name);
     }
 
     /// What was kept of the output.

@@ -58,14 +58,14 @@ fn start_with(rt: &HostRuntime, alloc: Global, given: &[String]) -> io::Result<u
     let buffered = BufWriter::with_capacity(alloc, OUT_CAPACITY, guarded)?;
     let mut out = Prompt::new(rt, buffered);
     match read_words(alloc, words.as_slice(), &mut out, &mut console(rt)) {
-        Asked::Run(invocation) => Ok(run(rt, alloc, invocation, &mut out)),
+        Asked::Run(invocation) => Ok(run(rt, alloc, &invocation, &mut out)),
         Asked::End(status) => Ok(status),
     }
 }
 
 /// Does what is asked for, and gives the exit status.
-fn run<W: Write>(rt: &HostRuntime, alloc: Global, invocation: Invocation<'_>, out: &mut W) -> u8 {
-    let screen = screen_for(rt, alloc, invocation.request);
+fn run<W: Write>(rt: &HostRuntime, alloc: Global, invocation: &Invocation<'_>, out: &mut W) -> u8 {
+    let screen = screen_for(rt, alloc, &invocation.request);
     let mut evidence = Evidence::new(alloc, invocation);
     let mut input = rt.stdin();
     let mut err = console(rt);
@@ -73,9 +73,9 @@ fn run<W: Write>(rt: &HostRuntime, alloc: Global, invocation: Invocation<'_>, ou
 }
 
 /// Where it is shown how far an evaluation is: where that is asked for, and on a terminal.
-fn screen_for<'a>(rt: &'a HostRuntime, alloc: Global, request: Request<'_>) -> Screen<'a> {
+fn screen_for<'a>(rt: &'a HostRuntime, alloc: Global, request: &Request<'_>) -> Screen<'a> {
     let err = rt.stderr();
-    let (is_asked, steps) = match request {
+    let (is_asked, steps) = match *request {
         Request::Eval { options, .. } => { (options.progress || err.is_terminal(), options.steps) }
         _ => (false, 0),
     };

@@ -114,14 +114,23 @@ fn write_tally<W: Write>(tally: Tally, matched: u64, out: &mut W) -> io::Result<
         steps,
         remembered,
         saved,
-        made,
-        most,
-        reclaims,
+        ..
     } = tally;
     writeln!(
         out,
         "profile: steps: {steps} spent, {matched} matched, {saved} remembered by {remembered} results"
     )?;
+    write_cells(tally, out)
+}
+
+/// Writes the lines that tell of cells.
+fn write_cells<W: Write>(tally: Tally, out: &mut W) -> io::Result<()> {
+    let Tally {
+        made,
+        most,
+        reclaims,
+        ..
+    } = tally;
     writeln!(out, "profile: cells: {made} made, {most} held at most")?;
     writeln!(out, "profile: reclaims: {reclaims}")
 }

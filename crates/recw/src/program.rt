@@ -3,7 +3,7 @@
 use crate::check::check;
 use crate::evidence::Evidence;
 use crate::given::given_by;
-use crate::input::{open, open_file, open_given};
+use crate::input::open_given;
 use crate::look;
 use crate::profile::Profile;
 use crate::recorded::Watched;
@@ -31,18 +31,30 @@ pub fn obey<H: Files, R: Read, W: Write, E: Write + Audience, V: Watch + Drop>(
     err: &mut E,
     watch: V,
 ) -> u8 {
-    evidence.invocation.explain |= err.is_curious();
+    evidence.is_curious |= err.is_curious();
     let mut out = Watched::new(out, evidence.invocation.has_outcome);
-    let end = match evidence.invocation.request {
+    let end = attempt(rt, evidence, input, &mut out, err, watch);
+    evidence.note_output(out.finish());
+    conclude(end, evidence, err)
+}
+
+/// Does what is asked for. `watch` is told how far an evaluation is.
+fn attempt<H: Files, R: Read, W: Write, E: Write, V: Watch + Drop>(
+    rt: &H,
+    evidence: &mut Evidence<'_>,
+    input: &mut R,
+    out: &mut W,
+    err: &mut E,
+    watch: V,
+) -> Result<Outcome, RunDepthFault> {
+    match evidence.invocation.request {
         Request::Eval { options, .. } => {
             let profiler = Profile::new(evidence.alloc, options.profile, err);
             let observer = Observer { watch, profiler };
-            evaluate_observed(rt, options, observer, input, &mut out, evidence).map(Outcome::from)
+            evaluate_observed(rt, options, observer, input, out, evidence).map(Outcome::from)
         }
-        _ => perform(rt, input, &mut out, err, evidence),
-    };
-    evidence.note_output(out.finish());
-    conclude(end, evidence, err)
+        _ => perform(rt, input, out, err, evidence),
+    }
 }
 
 /// Tells of a run's end, and gives its status.
@@ -52,7 +64,7 @@ fn conclude<E: Write>(
     err: &mut E,
 ) -> u8 {
     let status = tell_end(end, err);
-    if evidence.invocation.explain {
+    if evidence.is_curious {
         let _ = evidence.explain(end, err);
     }
     if let Ok(Outcome::Done) = end {
@@ -103,10 +115,15 @@ fn perform<H: Files, R: Read, W: Write, E: Write>(
         Request::Check { is_strict } => {
             check(rt, is_strict, input, out, evidence).map_err(RunDepthFault::Run)
         }
-        _ => match run_request(rt, input, out, err, evidence) {
-            Ok(ending) => Ok(Outcome::from(ending)),
-            Err(fault) => Err(RunDepthFault::Run(fault)),
-        },
+        _ => outcome_of(run_request(rt, input, out, err, evidence)),
+    }
+}
+
+/// What came of a run in which no calls wait.
+fn outcome_of(end: Result<Ending, RunFault>) -> Result<Outcome, RunDepthFault> {
+    match end {
+        Ok(ending) => Ok(Outcome::from(ending)),
+        Err(fault) => Err(RunDepthFault::Run(fault)),
     }
 }
 
@@ -135,12 +152,10 @@ fn run_on_file<H: Files, R: Read, W: Write>(
     out: &mut W,
     evidence: &mut Evidence<'_>,
 ) -> Result<Ending, RunFault> {
-    let path = evidence.invocation.request.path();
-    let name = evidence.name_of(Source::Term);
-    let file = evidence.note_open(open(rt, path, input), name)?;
-    let mut text = evidence.record(file);
+    let mut file = evidence.open_first(rt, input, Source::Term)?;
+    let mut text = evidence.record(&mut file);
     let end = run_on_text(&mut text, out, evidence);
-    evidence.first = evidence.note_read(text.finish(), name);
+    evidence.keep_first(text, Source::Term);
     end
 }
 
@@ -211,13 +226,10 @@ fn evaluate_on_input<H: Files, R: Read, W: Write, K: Work>(
     out: &mut W,
     evidence: &mut Evidence<'_>,
 ) -> Result<Ending, RunDepthFault> {
-    let path = evidence.invocation.request.path();
-    let name = evidence.name_of(Source::Spec);
-    let file = evidence.note_open(open_file(rt, path), name)?;
-    let terms = evidence.note_open(open(rt, None, input), name)?;
-    let mut spec = evidence.record(file);
-    let end = evaluate_with(work, &mut spec, Some(terms), out, evidence);
-    evidence.first = evidence.note_read(spec.finish(), name);
+    let mut file = evidence.open_spec(rt)?;
+    let mut spec = evidence.record(&mut file);
+    let end = evaluate_beside(work, &mut spec, input, out, evidence);
+    evidence.keep_first(spec, Source::Spec);
     end
 }
 
@@ -229,12 +241,10 @@ fn evaluate_on_files<H: Files, R: Read, W: Write, K: Work>(
     out: &mut W,
     evidence: &mut Evidence<'_>,
 ) -> Result<Ending, RunDepthFault> {
-    let path = evidence.invocation.request.path();
-    let name = evidence.name_of(Source::Spec);
-    let file = evidence.note_open(open(rt, path, input), name)?;
-    let mut spec = evidence.record(file);
+    let mut file = evidence.open_first(rt, input, Source::Spec)?;
+    let mut spec = evidence.record(&mut file);
     let end = evaluate_text(rt, work, &mut spec, out, evidence);
-    evidence.first = evidence.note_read(spec.finish(), name);
+    evidence.keep_first(spec, Source::Spec);
     end
 }
 
@@ -246,13 +256,25 @@ fn evaluate_text<H: Files, R: Read, W: Write, K: Work>(
     out: &mut W,
     evidence: &mut Evidence<'_>,
 ) -> Result<Ending, RunDepthFault> {
-    if !evidence.invocation.given.is_empty() {
-        return evaluate_words(work, spec, out, evidence);
+    if evidence.invocation.given.is_empty() {
+        evaluate_given_file(rt, work, spec, out, evidence)
+    } else {
+        evaluate_words(work, spec, out, evidence)
     }
+}
+
+/// Evaluates a specification and the terms of a file, where one is given.
+fn evaluate_given_file<H: Files, R: Read, W: Write, K: Work>(
+    rt: &H,
+    work: &mut K,
+    spec: &mut R,
+    out: &mut W,
+    evidence: &mut Evidence<'_>,
+) -> Result<Ending, RunDepthFault> {
     let path = evidence.invocation.request.terms_path();
     let name = evidence.name_of(Source::Terms);
-    let terms = evidence.note_open(open_given(rt, path), name)?;
-    evaluate_with(work, spec, terms, out, evidence)
+    let mut terms = evidence.note_open(open_given(rt, path), name)?;
+    evaluate_with(work, spec, terms.as_mut(), out, evidence)
 }
 
 /// Evaluates a specification and the terms that stand among the words.
@@ -263,26 +285,34 @@ fn evaluate_words<R: Read, W: Write, K: Work>(
     evidence: &mut Evidence<'_>,
 ) -> Result<Ending, RunDepthFault> {
     let given = given_by(evidence.alloc, evidence.invocation.given.as_slice())?;
-    let ending = evaluate_with(work, spec, Some(given.text()), out, evidence)?;
+    let ending = evaluate_beside(work, spec, &mut given.text(), out, evidence)?;
     Ok(evidence.note_word(ending, &given))
 }
 
-/// Evaluates a specification and given terms, whose text is kept for an explanation.
-fn evaluate_with<R: Read, T: Read + Drop, W: Write, K: Work>(
+/// Evaluates a specification and given terms, where there are any.
+fn evaluate_with<R: Read, T: Read, W: Write, K: Work>(
     work: &mut K,
     spec: &mut R,
-    terms: Option<T>,
+    terms: Option<&mut T>,
     out: &mut W,
     evidence: &mut Evidence<'_>,
 ) -> Result<Ending, RunDepthFault> {
-    let mut terms = match terms {
-        Some(file) => Some(evidence.record(file)),
-        None => None,
-    };
-    let end = work.run(spec, terms.as_mut(), out, evidence);
-    if let Some(terms) = terms {
-        let name = evidence.name_of(Source::Terms);
-        evidence.second = evidence.note_read(terms.finish(), name);
+    match terms {
+        Some(terms) => evaluate_beside(work, spec, terms, out, evidence),
+        None => work.run(evidence.alloc, spec, None::<&mut &[u8]>, out),
     }
+}
+
+/// Evaluates a specification and given terms, whose text is kept for an explanation.
+fn evaluate_beside<R: Read, T: Read, W: Write, K: Work>(
+    work: &mut K,
+    spec: &mut R,
+    terms: &mut T,
+    out: &mut W,
+    evidence: &mut Evidence<'_>,
+) -> Result<Ending, RunDepthFault> {
+    let mut terms = evidence.record(terms);
+    let end = work.run(evidence.alloc, spec, Some(&mut terms), out);
+    evidence.keep_second(terms);
     end
 }

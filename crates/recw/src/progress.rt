@@ -1,9 +1,9 @@
 //! How far a term is whose evaluation takes long, on standard error.
 
-use std::alloc::{AllocError, Global};
-use std::io;
+use std::alloc::Global;
 use std::io::Write;
 use std::time::{Clock, Duration};
+use std::{fmt, io};
 
 /// For how many milliseconds terms are evaluated before anything is shown.
 const PATIENCE: u64 = 1000;
@@ -78,10 +78,10 @@ impl<'a, C: Clock> Progress<'a, C> {
 
     /// Writes the line over the one that is shown, and wipes what is left of that.
     fn write_line<E: Write>(&self, left: u64, cells: u32, err: &mut E) -> io::Result<()> {
-        let spent = group_digits(self.alloc, self.steps.saturating_sub(left))?;
-        let steps = group_digits(self.alloc, self.steps)?;
-        let cells = group_digits(self.alloc, u64::from(cells))?;
         let term = self.term;
+        let spent = Grouped(self.steps.saturating_sub(left));
+        let steps = Grouped(self.steps);
+        let cells = Grouped(u64::from(cells));
         let line = format!(in self.alloc;
             "\rrecw: term {term}: {spent} of {steps} steps, {cells} cells\u{1b}[K"
         )?;
@@ -98,15 +98,42 @@ impl<'a, C: Clock> Progress<'a, C> {
     }
 }
 
-/// A number with a comma before each three digits.
-fn group_digits(alloc: Global, number: u64) -> Result<String, AllocError> {
-    let digits = format!(in alloc; "{number}")?;
-    let mut text = String::new(alloc);
-    for (index, digit) in digits.chars().enumerate() {
-        if index > 0 && digits.len().saturating_sub(index) % 3 == 0 {
-            text.push(',')?;
+/// A number that is shown with a comma before each three digits.
+#[derive(Clone, Copy)]
+struct Grouped(u64);
+
+impl fmt::Display for Grouped {
+    fn fmt<W: fmt::Write>(&self, f: &mut fmt::Formatter<W>) -> fmt::Result {
+        let Grouped(number) = *self;
+        if number < 1000 {
+            write!(f, "{number}")
+        } else {
+            write_groups(&groups_of(number), f)
         }
-        text.push(digit)?;
     }
-    Ok(text)
+}
+
+/// Writes the groups of a number from its first digit on. Nothing is written of zero.
+fn write_groups<W: fmt::Write>(groups: &[u64; 7], f: &mut fmt::Formatter<W>) -> fmt::Result {
+    let mut is_begun = false;
+    for group in groups {
+        if is_begun {
+            write!(f, ",{group:03}")?;
+        } else if *group > 0 {
+            is_begun = true;
+            write!(f, "{group}")?;
+        }
+    }
+    Ok(())
+}
+
+/// The digits of a number in groups of three, the last of which are its last three.
+fn groups_of(number: u64) -> [u64; 7] {
+    let mut groups = [0; 7];
+    let mut rest = number;
+    for group in groups.iter_mut().rev() {
+        *group = rest % 1000;
+        rest /= 1000;
+    }
+    groups
 }

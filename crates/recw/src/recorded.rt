@@ -6,9 +6,9 @@ use std::io::{Error, Read, Write};
 
 /// A reader whose text is kept. Where there is no memory for it, nothing is.
 #[derive(Drop)]
-pub struct Recorded<R> {
+pub struct Recorded<'a, R> {
     /// The reader that is asked.
-    input: R,
+    input: &'a mut R,
     /// Whether the text is kept.
     is_kept: bool,
     /// The text so far; nothing where it is not kept.
@@ -17,9 +17,9 @@ pub struct Recorded<R> {
     trouble: Option<Error>,
 }
 
-impl<R: Read> Recorded<R> {
+impl<'a, R: Read> Recorded<'a, R> {
     /// A reader of which nothing was read; the text is kept where `is_kept`.
-    pub fn new(alloc: Global, input: R, is_kept: bool) -> Recorded<R> {
+    pub fn new(alloc: Global, input: &'a mut R, is_kept: bool) -> Recorded<'a, R> {
         Recorded {
             input,
             is_kept,
@@ -35,16 +35,14 @@ impl<R: Read> Recorded<R> {
             self.text.clear();
         }
     }
-}
 
-impl<R: Read + Drop> Recorded<R> {
     /// The text that was read, and why a read failed.
     pub fn finish(self) -> (Vec<u8>, Option<Error>) {
         (self.text, self.trouble)
     }
 }
 
-impl<R: Read> Read for Recorded<R> {
+impl<R: Read> Read for Recorded<'_, R> {
     fn read(&mut self, buf: &mut [u8]) -> io::Result<usize> {
         match self.input.read(buf) {
             Ok(count) => {

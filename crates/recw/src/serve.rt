@@ -2,7 +2,7 @@
 
 use crate::evidence::Evidence;
 use crate::expected::expected_words;
-use crate::input::{open, open_file};
+use crate::input::open_file;
 use crate::options::serve_settings;
 use crate::recorded::Recorded;
 use rec_run::{Ending, Reason, RunFault, Source};
@@ -95,53 +95,94 @@ pub fn serve<H: Files, R: Read, W: Write, E: Write>(
     err: &mut E,
     evidence: &mut Evidence<'_>,
 ) -> Result<Ending, RunFault> {
-    let request = evidence.invocation.request;
-    let spec_name = evidence.name_of(Source::Spec);
-    let name = evidence.name_of(Source::Term);
-    match request.requests_path() {
-        Some(_) => {
-            let spec = evidence.note_open(open(rt, request.path(), input), spec_name)?;
-            let requests = evidence.note_open(open_file(rt, request.requests_path()), name)?;
-            serve_on(options, spec, requests, out, err, evidence)
-        }
-        None => {
-            let spec = evidence.note_open(open_file(rt, request.path()), spec_name)?;
-            let requests = evidence.note_open(open(rt, None, input), name)?;
-            serve_on(options, spec, requests, out, err, evidence)
-        }
+    match evidence.invocation.request.requests_path() {
+        Some(_) => serve_file(rt, options, input, out, err, evidence),
+        None => serve_input(rt, options, input, out, err, evidence),
     }
 }
 
-/// Answers requests by a specification, whose text is kept for an explanation.
-fn serve_on<S: Read + Drop, R: Read + Drop, W: Write, E: Write>(
+/// Answers the requests of a file by a specification in another or on the standard input.
+fn serve_file<H: Files, R: Read, W: Write, E: Write>(
+    rt: &H,
     options: EvalOptions,
-    spec: S,
-    requests: R,
+    input: &mut R,
+    out: &mut W,
+    err: &mut E,
+    evidence: &mut Evidence<'_>,
+) -> Result<Ending, RunFault> {
+    let mut spec = evidence.open_first(rt, input, Source::Spec)?;
+    serve_opened(rt, options, &mut spec, out, err, evidence)
+}
+
+/// The same by the text of a specification.
+fn serve_opened<H: Files, S: Read, W: Write, E: Write>(
+    rt: &H,
+    options: EvalOptions,
+    spec: &mut S,
+    out: &mut W,
+    err: &mut E,
+    evidence: &mut Evidence<'_>,
+) -> Result<Ending, RunFault> {
+    let path = evidence.invocation.request.requests_path();
+    let name = evidence.name_of(Source::Term);
+    let mut requests = evidence.note_open(open_file(rt, path), name)?;
+    serve_on(options, spec, &mut requests, out, err, evidence)
+}
+
+/// Answers the requests of the standard input by a specification in a file.
+fn serve_input<H: Files, R: Read, W: Write, E: Write>(
+    rt: &H,
+    options: EvalOptions,
+    input: &mut R,
+    out: &mut W,
+    err: &mut E,
+    evidence: &mut Evidence<'_>,
+) -> Result<Ending, RunFault> {
+    let mut spec = evidence.open_spec(rt)?;
+    serve_on(options, &mut spec, input, out, err, evidence)
+}
+
+/// Answers requests by a specification, whose text is kept for an explanation.
+fn serve_on<S: Read, R: Read, W: Write, E: Write>(
+    options: EvalOptions,
+    spec: &mut S,
+    requests: &mut R,
+    out: &mut W,
+    err: &mut E,
+    evidence: &mut Evidence<'_>,
+) -> Result<Ending, RunFault> {
+    let mut spec = evidence.record(spec);
+    let end = answer_all(options, &mut spec, requests, out, err, evidence);
+    evidence.keep_first(spec, Source::Spec);
+    end
+}
+
+/// Answers requests; those that are refused are explained where that is asked for.
+fn answer_all<S: Read, R: Read, W: Write, E: Write>(
+    options: EvalOptions,
+    spec: &mut S,
+    requests: &mut R,
     out: &mut W,
     err: &mut E,
     evidence: &mut Evidence<'_>,
 ) -> Result<Ending, RunFault> {
     let alloc = evidence.alloc;
-    let mut spec = evidence.record(spec);
     let mut requests = Recorded::new(alloc, requests, false);
     let mut explainer = Explainer {
         alloc,
         path: evidence.requests_name(),
-        is_asked: evidence.invocation.explain,
+        is_asked: evidence.is_curious,
         err,
     };
-    let end = run_serve(
-        alloc,
-        &mut spec,
-        &mut requests,
-        out,
-        serve_settings(options),
-        &mut explainer,
-    );
-    let name = evidence.name_of(Source::Spec);
-    evidence.first = evidence.note_read(spec.finish(), name);
+    let settings = serve_settings(options);
+    let end = run_serve(alloc, spec, &mut requests, out, settings, &mut explainer);
     let name = evidence.name_of(Source::Term);
     evidence.note_read(requests.finish(), name);
+    end_of(end)
+}
+
+/// The end of a conversation, as that of other runs.
+fn end_of(end: Result<Ending, ServeFault>) -> Result<Ending, RunFault> {
     match end {
         Ok(ending) => Ok(ending),
         Err(ServeFault::Memory) => Err(RunFault::Memory { lines: 0 }),

@@ -16,7 +16,7 @@ use crate::evidence::Evidence;
 use crate::program::obey;
 use crate::shelf::Shelf;
 use rec_run::Unwatched;
-use recw_words::{Asked, Audience, Console, read_words};
+use recw_words::{Asked, Audience, Console, Invocation, read_words};
 use std::alloc::Global;
 use std::io::{Read, Write};
 use std::process::Abort;
@@ -66,12 +66,22 @@ pub(crate) fn program<H: Files, R: Read, W: Write, E: Write + Audience>(
     err: &mut E,
 ) -> u8 {
     match read_words(alloc, words, out, err) {
-        Asked::Run(invocation) => {
-            let mut evidence = Evidence::new(alloc, invocation);
-            obey(files, &mut evidence, input, out, err, Unwatched)
-        }
+        Asked::Run(invocation) => answer(files, alloc, &invocation, input, out, err),
         Asked::End(status) => status,
     }
+}
+
+/// Does what is asked for before nobody, and gives the exit status.
+fn answer<H: Files, R: Read, W: Write, E: Write + Audience>(
+    files: &H,
+    alloc: Global,
+    invocation: &Invocation<'_>,
+    input: &mut R,
+    out: &mut W,
+    err: &mut E,
+) -> u8 {
+    let mut evidence = Evidence::new(alloc, invocation);
+    obey(files, &mut evidence, input, out, err, Unwatched)
 }
 
 /// Runs the program with this text as its standard input.

@@ -1,11 +1,11 @@
 //! What is done with terms that are evaluated.
 
-use crate::evidence::Evidence;
 use crate::options::{run_settings, trace_options};
 use rec_look::run_trace;
 use rec_run::{Ending, Observer, Profiler, RunDepthFault, Watch, run_observed};
 use rec_stuck::{StuckReport, run_stuck};
 use recw_words::{EvalOptions, Shown};
+use std::alloc::Global;
 use std::io::{Read, Write};
 
 /// What is done with the terms of a specification, and with given ones.
@@ -13,10 +13,10 @@ pub trait Work {
     /// Does it over the texts of both.
     fn run<R: Read, T: Read, W: Write>(
         &mut self,
+        alloc: Global,
         spec: &mut R,
         terms: Option<&mut T>,
         out: &mut W,
-        evidence: &mut Evidence<'_>,
     ) -> Result<Ending, RunDepthFault>;
 }
 
@@ -32,12 +32,11 @@ pub struct Values<V, P> {
 impl<V: Watch, P: Profiler> Work for Values<V, P> {
     fn run<R: Read, T: Read, W: Write>(
         &mut self,
+        alloc: Global,
         spec: &mut R,
         terms: Option<&mut T>,
         out: &mut W,
-        evidence: &mut Evidence<'_>,
     ) -> Result<Ending, RunDepthFault> {
-        let alloc = evidence.alloc;
         let settings = run_settings(self.options);
         run_observed(alloc, spec, terms, out, settings, &mut self.observer)
     }
@@ -55,12 +54,11 @@ pub struct Calls<V, P> {
 impl<V: Watch, P: Profiler> Work for Calls<V, P> {
     fn run<R: Read, T: Read, W: Write>(
         &mut self,
+        alloc: Global,
         spec: &mut R,
         terms: Option<&mut T>,
         out: &mut W,
-        evidence: &mut Evidence<'_>,
     ) -> Result<Ending, RunDepthFault> {
-        let alloc = evidence.alloc;
         let settings = run_settings(self.options);
         run_stuck(alloc, spec, terms, out, settings, &mut self.report)
     }
@@ -78,12 +76,11 @@ pub struct Firings<'a> {
 impl Work for Firings<'_> {
     fn run<R: Read, T: Read, W: Write>(
         &mut self,
+        alloc: Global,
         spec: &mut R,
         terms: Option<&mut T>,
         out: &mut W,
-        evidence: &mut Evidence<'_>,
     ) -> Result<Ending, RunDepthFault> {
-        let alloc = evidence.alloc;
         let options = trace_options(self.options, self.shown);
         run_trace(alloc, spec, terms, out, options).map_err(RunDepthFault::Run)
     }
