@@ -99,9 +99,12 @@ pub(crate) fn expect_ran(
     place: Option<Place>,
     lines: &str,
 ) {
-    assert!(rt; ran.result == Ok(finish), "{lines}");
-    assert!(rt; ran.place == place, "{lines}");
-    assert!(rt; ran.written.as_slice() == lines.as_bytes(), "{lines}");
+    assert!(rt;
+        ran.result == Ok(finish)
+            && ran.place == place
+            && ran.written.as_slice() == lines.as_bytes(),
+        "{lines}"
+    );
 }
 
 /// Adds a text's end.

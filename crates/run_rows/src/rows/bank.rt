@@ -149,28 +149,36 @@ fn thousand(steps: u32, cells: u32) -> RunOptions {
 
 /// Stops where a run wrote other lines, or met a fault.
 fn expect_counted(rt: &impl Abort, counted: &Counted, lines: &str) {
-    assert!(rt; matches!(counted.end, Ok(Ending::Done)));
-    assert!(rt; counted.written.as_slice() == lines.as_bytes());
+    assert!(rt;
+        matches!(counted.end, Ok(Ending::Done)) && counted.written.as_slice() == lines.as_bytes(),
+        "{lines}"
+    );
 }
 
 /// Stops where there were not as many reclaims as thousands of new cells, within one, or hardly
-/// any.
-fn expect_thousands(rt: &impl Abort, counts: &Counts) {
+/// any, or the longest one was handed fewer references.
+fn expect_thousands(rt: &impl Abort, counts: &Counts, longest: usize) {
     let thousands = counts.cells / 1_000;
-    assert!(rt; thousands >= 20);
-    assert!(rt; counts.reclaims <= thousands);
-    assert!(rt; thousands - counts.reclaims <= 1);
+    assert!(rt; thousands >= 20 && counts.reclaims <= thousands);
+    assert!(rt; thousands - counts.reclaims <= 1 && counts.longest >= longest);
 }
+
+/// A specification that counts for ever, the most steps, their line, and how many references the
+/// longest reclaim was handed at least.
+type Endless = (&'static str, u32, &'static str, usize);
+
+static ENDLESS: [Endless; 2] = [
+    (SPIN, 100_000, "!limit 100000\n", 0),
+    (DIVE, 40_000, "!limit 40000\n", 10_001),
+];
 
 #[test]
 fn a_reclaim_for_each_thousand_cells(rt: HostRuntime) {
-    let spun = run_counted(&rt, rt.alloc(), SPIN, thousand(100_000, 1_000_000));
-    expect_counted(&rt, &spun, "!limit 100000\n");
-    expect_thousands(&rt, &spun.counts);
-    let dived = run_counted(&rt, rt.alloc(), DIVE, thousand(40_000, 1_000_000));
-    expect_counted(&rt, &dived, "!limit 40000\n");
-    expect_thousands(&rt, &dived.counts);
-    assert!(rt; dived.counts.longest > 10_000);
+    for (text, steps, line, longest) in &ENDLESS {
+        let counted = run_counted(&rt, rt.alloc(), text, thousand(*steps, 1_000_000));
+        expect_counted(&rt, &counted, line);
+        expect_thousands(&rt, &counted.counts, *longest);
+    }
 }
 
 /// A million steps of calls with nothing behind them need no more than numbers of twenty bits do.
@@ -178,8 +186,7 @@ fn a_reclaim_for_each_thousand_cells(rt: HostRuntime) {
 fn last_calls_need_nothing(rt: HostRuntime) {
     let spun = run_counted(&rt, rt.alloc(), SPIN, thousand(1_000_000, 2_000));
     expect_counted(&rt, &spun, "!limit 1000000\n");
-    assert!(rt; spun.counts.longest < 50);
-    assert!(rt; spun.cells < 1_200);
+    assert!(rt; spun.counts.longest < 50 && spun.cells < 1_200);
 }
 
 /// A constant is asked for once, and not in each of many steps; nothing else is made there.
@@ -225,8 +232,10 @@ fn push_fast(rt: &impl Abort, text: &mut String) {
 fn expect_run(rt: &impl Abort, alloc: Global, mut text: &[u8], options: RunOptions, lines: &str) {
     let mut written = Vec::new(alloc);
     let end = run(alloc, &mut text, None::<&mut &[u8]>, &mut written, options);
-    assert!(rt; end == Ok(Finish::Done));
-    assert!(rt; written.as_slice() == lines.as_bytes(), "{lines}");
+    assert!(rt;
+        end == Ok(Finish::Done) && written.as_slice() == lines.as_bytes(),
+        "{lines}"
+    );
 }
 
 #[test]
@@ -251,22 +260,28 @@ fn three_cells() -> RunOptions {
 #[test]
 fn given_terms_in_three_cells(rt: HostRuntime) {
     let short = run_beside(rt.alloc(), Q.as_bytes(), b"[b,a]", three_cells());
-    assert!(rt; short.result == Err(RunFault::Room { lines: 0 }));
-    assert!(rt; short.written.is_empty());
+    assert!(rt; short.result == Err(RunFault::Room { lines: 0 }) && short.written.is_empty());
     let refused = run_beside(rt.alloc(), Q.as_bytes(), b"[3]", three_cells());
     expect_ran(&rt, &refused, Finish::Refused, None, "!terms T2\n");
+}
+
+/// Stops where a run ended otherwise than by want of cells, or another number of them is left.
+fn expect_full(rt: &impl Abort, counted: &Counted, cells: u32) {
+    assert!(rt; matches!(counted.end, Err(RunFault::Room { lines: 0 })));
+    assert!(rt; counted.cells == cells && counted.cap == cells);
+}
+
+/// Stops where anything was needed, given back or written.
+fn expect_untouched(rt: &impl Abort, counted: &Counted) {
+    assert!(rt; counted.needed == 0 && counted.counts.reclaims == 0 && counted.written.is_empty());
 }
 
 /// The text of the terms fills the bank before anything is needed, and nothing is given back.
 #[test]
 fn given_terms_fill_a_bank_of_three_cells(rt: HostRuntime) {
     let short = run_beside_counted(&rt, rt.alloc(), Q, "[b,a]", three_cells());
-    assert!(rt; matches!(short.end, Err(RunFault::Room { lines: 0 })));
-    assert!(rt; short.cells == 3);
-    assert!(rt; short.cap == 3);
-    assert!(rt; short.needed == 0);
-    assert!(rt; short.counts.reclaims == 0);
-    assert!(rt; short.written.is_empty());
+    expect_full(&rt, &short, 3);
+    expect_untouched(&rt, &short);
 }
 
 /// Adds a specification with so many terms to evaluate.
@@ -296,18 +311,11 @@ fn a_thousand_terms(rt: HostRuntime) {
     );
 }
 
-/// Stops where a run ended otherwise than by want of cells, or cells are left.
-fn expect_full(rt: &impl Abort, counted: &Counted) {
-    assert!(rt; matches!(counted.end, Err(RunFault::Room { lines: 0 })));
-    assert!(rt; counted.cells == 9);
-    assert!(rt; counted.cap == 9);
-    assert!(rt; counted.needed <= 12);
-}
-
 /// A sum's term has eight cells, and its value two besides; the term, the empty list and a few
 /// values on the way are needed.
 #[test]
 fn want_of_cells_leaves_a_full_bank(rt: HostRuntime) {
     let short = run_counted(&rt, rt.alloc(), ADD, thousand(3, 9));
-    expect_full(&rt, &short);
+    expect_full(&rt, &short, 9);
+    assert!(rt; short.needed <= 12);
 }

@@ -1,6 +1,6 @@
 //! How many calls may wait: the term for its call, and each right side for the call in it.
 
-use crate::rows::streams::{bytewise, taking};
+use crate::rows::streams::{Sink, bytewise, taking};
 use crate::rows::{addition, options};
 use rec_run::{Ending, Finish, LimitLines, RunDepthFault, RunOptions, RunSettings, run_within};
 use rec_serve::{Deaf, ServeSettings, run_serve};
@@ -28,76 +28,71 @@ fn forgetful() -> RunOptions {
     }
 }
 
-/// A run in which so many calls may wait ends so, and writes these lines.
-fn ends(
-    rt: &impl Abort,
-    alloc: Global,
-    depth: Option<u32>,
-    due: Result<Finish, RunDepthFault>,
-    lines: &str,
-) {
-    let mut out = taking(alloc);
+/// How many calls may wait, how a run ends then, and the lines.
+type Ends = (Option<u32>, Result<Finish, RunDepthFault>, &'static str);
+
+static ENDS: [Ends; 4] = [
+    (None, Ok(Finish::Done), "z\ns(s(z))\n"),
+    (Some(3), Ok(Finish::Done), "z\ns(s(z))\n"),
+    (Some(2), Err(RunDepthFault::Deep { lines: 1 }), "z\n"),
+    (Some(0), Err(RunDepthFault::Deep { lines: 0 }), ""),
+];
+
+/// Stops where a run ends otherwise than a row says, or writes other lines.
+fn expect_end(rt: &impl Abort, alloc: Global, out: &mut Sink, row: &Ends) {
+    let (depth, due, lines) = *row;
     let settings = RunSettings {
         options: forgetful(),
         limits: LimitLines::Bare,
         depth,
     };
     let mut spec = bytewise(SUMS);
-    let end = match run_within(alloc, &mut spec, None::<&mut &[u8]>, &mut out, settings) {
+    let end = match run_within(alloc, &mut spec, None::<&mut &[u8]>, out, settings) {
         Ok(ending) => Ok(ending.finish()),
         Err(fault) => Err(fault),
     };
-    assert!(rt; end == due, "{lines}");
-    assert!(rt; out.held.as_slice() == lines.as_bytes(), "{lines}");
+    assert!(rt;
+        end == due && out.held.as_slice() == lines.as_bytes(),
+        "{lines}"
+    );
 }
 
 #[test]
 fn as_many_calls_as_are_needed_may_wait_or_one_fewer(rt: HostRuntime) {
-    let alloc = rt.alloc();
-    ends(&rt, alloc, None, Ok(Finish::Done), "z\ns(s(z))\n");
-    ends(&rt, alloc, Some(3), Ok(Finish::Done), "z\ns(s(z))\n");
-    ends(
-        &rt,
-        alloc,
-        Some(2),
-        Err(RunDepthFault::Deep { lines: 1 }),
-        "z\n",
-    );
-    ends(
-        &rt,
-        alloc,
-        Some(0),
-        Err(RunDepthFault::Deep { lines: 0 }),
-        "",
-    );
+    for row in &ENDS {
+        expect_end(&rt, rt.alloc(), &mut taking(rt.alloc()), row);
+    }
 }
 
-/// Requests for which so many calls may wait have these answers.
-fn answers(rt: &impl Abort, alloc: Global, depth: Option<u32>, lines: &str) {
-    let mut out = taking(alloc);
+/// How many calls may wait, and the answers to the requests then.
+type Answers = (Option<u32>, &'static str);
+
+static ANSWERS: [Answers; 4] = [
+    (None, "s(z)\ns(s(z))\n!term A\ns(z){a}\n"),
+    (Some(3), "s(z)\ns(s(z))\n!term A\ns(z){a}\n"),
+    (Some(2), "s(z)\n!depth\n!term A\ns(z){a}\n"),
+    (Some(1), "!depth\n!depth\n!term A\n!depth\n"),
+];
+
+/// Stops where the requests have other answers than a row's.
+fn expect_answers(rt: &impl Abort, alloc: Global, out: &mut Sink, row: &Answers) {
+    let (depth, lines) = *row;
     let settings = ServeSettings {
         options: forgetful(),
         depth,
     };
     let mut requests = bytewise("plus(s(z),z)\nplus(s(s(z)),z)\nz(\nplus(s(z),z){a}");
     let mut spec = bytewise(SUMS);
-    let end = run_serve(
-        alloc,
-        &mut spec,
-        &mut requests,
-        &mut out,
-        settings,
-        &mut Deaf,
+    let end = run_serve(alloc, &mut spec, &mut requests, out, settings, &mut Deaf);
+    assert!(rt;
+        matches!(end, Ok(Ending::Done)) && out.held.as_slice() == lines.as_bytes(),
+        "{lines}"
     );
-    assert!(rt; matches!(end, Ok(Ending::Done)), "{lines}");
-    assert!(rt; out.held.as_slice() == lines.as_bytes(), "{lines}");
 }
 
 #[test]
 fn a_request_that_is_too_deep_stands_between_others(rt: HostRuntime) {
-    let alloc = rt.alloc();
-    answers(&rt, alloc, None, "s(z)\ns(s(z))\n!term A\ns(z){a}\n");
-    answers(&rt, alloc, Some(3), "s(z)\ns(s(z))\n!term A\ns(z){a}\n");
-    answers(&rt, alloc, Some(2), "s(z)\n!depth\n!term A\ns(z){a}\n");
-    answers(&rt, alloc, Some(1), "!depth\n!depth\n!term A\n!depth\n");
+    for row in &ANSWERS {
+        expect_answers(&rt, rt.alloc(), &mut taking(rt.alloc()), row);
+    }
 }

@@ -112,8 +112,11 @@ fn expect_annotated(rt: &impl Abort, alloc: Global, row: &Value) {
         depth: None,
     };
     let end = run_within(alloc, &mut spec, Some(&mut terms), &mut written, settings);
-    assert!(rt; matches!(end, Ok(Ending::Done)), "{}", row.4);
-    assert!(rt; written.as_slice() == row.4.as_bytes(), "{}", row.4);
+    assert!(rt;
+        matches!(end, Ok(Ending::Done)) && written.as_slice() == row.4.as_bytes(),
+        "{}",
+        row.4
+    );
 }
 
 #[test]

@@ -190,20 +190,16 @@ fn expect_unread(
     expect_held(rt, ended, Err(RunFault::Read), &out, &[]);
 }
 
-/// Where a read of the first text fails.
-fn fail_first(rt: &impl Abort, alloc: Global, row: &Row, k: usize, kind: ErrorKind) {
-    let mut first = failing(row.first, k, kind);
-    let mut second = bytewise(row.second);
-    expect_unread(rt, alloc, row, &mut first, &mut second);
-    assert!(rt; first.reads == k && second.reads == 0, "{k}");
-}
-
-/// Where a read of the second text fails.
-fn fail_second(rt: &impl Abort, alloc: Global, row: &Row, k: usize, kind: ErrorKind) {
-    let mut first = bytewise(row.first);
+/// Where a read of the first text fails, or, if its number is 0, one of the second; the second is
+/// not read where a read of the first fails.
+fn fail_read(rt: &impl Abort, alloc: Global, row: &Row, (i, k): (usize, usize), kind: ErrorKind) {
+    let mut first = failing(row.first, i, kind);
     let mut second = failing(row.second, k, kind);
     expect_unread(rt, alloc, row, &mut first, &mut second);
-    assert!(rt; second.reads == k, "{k}");
+    assert!(rt;
+        second.reads == k && (i == 0 || first.reads == i),
+        "{i} {k}"
+    );
 }
 
 /// Each read of a row's texts fails in its turn; arguments are no text that is read.
@@ -212,11 +208,11 @@ fn fail_reads(rt: &impl Abort, alloc: Global, row: &Row, kind: ErrorKind) {
         return;
     }
     for k in 1..=row.first.len().saturating_add(1) {
-        fail_first(rt, alloc, row, k, kind);
+        fail_read(rt, alloc, row, (k, 0), kind);
     }
     if matches!(row.job, Job::Beside(_)) {
         for k in 1..=row.second.len().saturating_add(1) {
-            fail_second(rt, alloc, row, k, kind);
+            fail_read(rt, alloc, row, (0, k), kind);
         }
     }
 }

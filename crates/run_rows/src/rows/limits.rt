@@ -78,25 +78,16 @@ fn blanks_without_end(rt: HostRuntime) {
     expect_long(&rt, rt.alloc(), Job::Beside(1), spec, &[], b"!terms L1\n");
 }
 
+/// Stops where a text is not refused as a pattern and as arguments.
+fn expect_long_text(rt: &impl Abort, alloc: Global, long: &[u8], term: &mut Slow<'_>) {
+    let line = b"!pattern L1\n";
+    expect_long(rt, alloc, Job::Match(long), term, &[], line);
+    expect_long(rt, alloc, Job::Make(long), term, b"[", line);
+    expect_long(rt, alloc, Job::Make(b"a"), term, long, b"!args L1\n");
+}
+
 #[test]
 fn long_patterns_and_arguments(rt: HostRuntime) {
     let long = pad(&rt, rt.alloc(), "", PAST);
-    let term = &mut bytewise("a");
-    expect_long(
-        &rt,
-        rt.alloc(),
-        Job::Match(&long),
-        term,
-        &[],
-        b"!pattern L1\n",
-    );
-    expect_long(
-        &rt,
-        rt.alloc(),
-        Job::Make(&long),
-        term,
-        b"[",
-        b"!pattern L1\n",
-    );
-    expect_long(&rt, rt.alloc(), Job::Make(b"a"), term, &long, b"!args L1\n");
+    expect_long_text(&rt, rt.alloc(), &long, &mut bytewise("a"));
 }

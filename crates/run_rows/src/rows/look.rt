@@ -1,6 +1,6 @@
 //! Texts of one term that are printed over several lines.
 
-use crate::rows::streams::{bytewise, failing, failing_at, taking};
+use crate::rows::streams::{Sink, bytewise, failing, failing_at, taking};
 use rec_run::{Ending, Finish, Named, Place, Source, run_aterm};
 use rx_look::{LookFault, run_aterm_indented};
 use std::alloc::Global;
@@ -38,6 +38,13 @@ fn in_one_line(rt: &impl Abort, alloc: Global, mut text: &[u8]) -> Vec<u8> {
     written
 }
 
+/// Stops where two texts are not of the same term.
+fn expect_same(rt: &impl Abort, alloc: Global, text: &str, printed: &[u8]) {
+    let first = in_one_line(rt, alloc, text.as_bytes());
+    let again = in_one_line(rt, alloc, printed);
+    assert!(rt; first.as_slice() == again.as_slice(), "{text}");
+}
+
 /// Stops where a text is printed otherwise, or what is printed is not the same term.
 fn expect_laid(rt: &impl Abort, alloc: Global, row: &Row) {
     let (text, indent, lines) = *row;
@@ -47,9 +54,7 @@ fn expect_laid(rt: &impl Abort, alloc: Global, row: &Row) {
         matches!(end, Ok(Ending::Done)) && written.as_slice() == lines.as_bytes(),
         "{text}"
     );
-    let first = in_one_line(rt, alloc, text.as_bytes());
-    let again = in_one_line(rt, alloc, written.as_slice());
-    assert!(rt; first.as_slice() == again.as_slice(), "{text}");
+    expect_same(rt, alloc, text, written.as_slice());
 }
 
 #[test]
@@ -60,9 +65,8 @@ fn over_several_lines(rt: HostRuntime) {
 }
 
 /// Stops where a text that is no term is not refused at its place.
-fn expect_refused(rt: &impl Abort, alloc: Global, mut text: &[u8], at: u32) {
-    let mut written = Vec::new(alloc);
-    let Ok(ending) = run_aterm_indented(alloc, &mut text, 1, &mut written) else {
+fn expect_refused(rt: &impl Abort, alloc: Global, written: &mut Vec<u8>, mut text: &[u8], at: u32) {
+    let Ok(ending) = run_aterm_indented(alloc, &mut text, 1, written) else {
         panic!(rt; "a stream refused")
     };
     let due = Place {
@@ -70,13 +74,14 @@ fn expect_refused(rt: &impl Abort, alloc: Global, mut text: &[u8], at: u32) {
         rule: Named::A,
         at,
     };
-    assert!(rt; matches!(ending, Ending::Refused(_)) && written.as_slice() == REFUSAL);
-    assert!(rt; ending.place() == Some(due));
+    assert!(rt; matches!(ending, Ending::Refused(_)) && ending.place() == Some(due));
+    assert!(rt; written.as_slice() == REFUSAL);
 }
 
 #[test]
 fn refused_at_its_place(rt: HostRuntime) {
-    expect_refused(&rt, rt.alloc(), b"f(a,)", 4);
+    let written = &mut Vec::new(rt.alloc());
+    expect_refused(&rt, rt.alloc(), written, b"f(a,)", 4);
 }
 
 /// Stops where a failing read is told otherwise, or something was written.
@@ -91,12 +96,11 @@ fn expect_unread(rt: &impl Abort, alloc: Global, number: usize) {
 const DUE: &[u8] = b"f(\n a\n)\n";
 
 /// Stops where a failing write is told otherwise, or what was written is no front of what is due.
-fn expect_unwritten(rt: &impl Abort, alloc: Global, number: usize) {
-    let mut out = failing_at(alloc, number, Some(ErrorKind::Other));
-    let end = run_aterm_indented(alloc, &mut bytewise("f(a)"), 1, &mut out);
+fn expect_unwritten(rt: &impl Abort, alloc: Global, out: &mut Sink, number: usize) {
+    let end = run_aterm_indented(alloc, &mut bytewise("f(a)"), 1, out);
+    let held = out.held.as_slice();
     assert!(rt; matches!(end, Err(LookFault::Write)));
-    assert!(rt; DUE.starts_with(out.held.as_slice()));
-    assert!(rt; out.held.len() == number.wrapping_sub(1));
+    assert!(rt; DUE.starts_with(held) && held.len() == number.wrapping_sub(1));
 }
 
 #[test]
@@ -105,6 +109,7 @@ fn each_call_fails(rt: HostRuntime) {
         expect_unread(&rt, rt.alloc(), number);
     }
     for number in 1..=8 {
-        expect_unwritten(&rt, rt.alloc(), number);
+        let out = &mut failing_at(rt.alloc(), number, Some(ErrorKind::Other));
+        expect_unwritten(&rt, rt.alloc(), out, number);
     }
 }

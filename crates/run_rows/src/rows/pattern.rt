@@ -9,61 +9,95 @@ use rec_run::{
 use std::alloc::Global;
 use std::process::Abort;
 
-/// A pattern, the text of a term or of arguments, and the lines.
-type Row = (&'static str, &'static str, &'static str);
+/// Whether a pattern is matched with a term, or makes one of arguments.
+enum Way {
+    Match,
+    Make,
+}
 
-static MATCHES: [Row; 12] = [
-    ("f(<int>,<list>)", "f(1,2,3)", "yes\n1\n[2,3]\n"),
-    ("f(<int>,<list>)", "f(1)", "yes\n1\n[]\n"),
-    ("f(<int>,<list>)", "f(a)", "no\n"),
-    ("[<list>]{x}", "[1,2]{x}", "yes\n[1,2]\n"),
-    ("a{<list>}", "a", "yes\n[]\n"),
-    ("<str>", "a", "no\n"),
-    ("<str>", "\"a\"{b}", "yes\n\"a\"{b}\n"),
-    ("<int>", "7{a}", "yes\n7{a}\n"),
-    ("f(g(<int>){<int>},<int>)", "f(g(1){2},3)", "yes\n1\n2\n3\n"),
-    ("[<list>,<list>]", "[[1],2,3]", "yes\n[1]\n[2,3]\n"),
-    ("a", "a", "yes\n"),
-    ("a", "a{b}", "no\n"),
-];
+/// A pattern with its way, the text of a term or of arguments, and the lines.
+type Row = (Way, &'static str, &'static str, &'static str);
 
-static MAKES: [Row; 4] = [
-    ("f(<int>,<list>)", "[1,[2,3]]", "f(1,2,3)\n"),
-    ("f(<int>,<list>)", "[1,[]]", "f(1)\n"),
-    ("a", "[]{}", "a\n"),
-    ("f(<term>){<list>}", "[a{b},[1,2]]", "f(a{b}){1,2}\n"),
+static DONE: [Row; 16] = [
+    (Way::Match, "f(<int>,<list>)", "f(1,2,3)", "yes\n1\n[2,3]\n"),
+    (Way::Match, "f(<int>,<list>)", "f(1)", "yes\n1\n[]\n"),
+    (Way::Match, "f(<int>,<list>)", "f(a)", "no\n"),
+    (Way::Match, "[<list>]{x}", "[1,2]{x}", "yes\n[1,2]\n"),
+    (Way::Match, "a{<list>}", "a", "yes\n[]\n"),
+    (Way::Match, "<str>", "a", "no\n"),
+    (Way::Match, "<str>", "\"a\"{b}", "yes\n\"a\"{b}\n"),
+    (Way::Match, "<int>", "7{a}", "yes\n7{a}\n"),
+    (
+        Way::Match,
+        "f(g(<int>){<int>},<int>)",
+        "f(g(1){2},3)",
+        "yes\n1\n2\n3\n",
+    ),
+    (
+        Way::Match,
+        "[<list>,<list>]",
+        "[[1],2,3]",
+        "yes\n[1]\n[2,3]\n",
+    ),
+    (Way::Match, "a", "a", "yes\n"),
+    (Way::Match, "a", "a{b}", "no\n"),
+    (Way::Make, "f(<int>,<list>)", "[1,[2,3]]", "f(1,2,3)\n"),
+    (Way::Make, "f(<int>,<list>)", "[1,[]]", "f(1)\n"),
+    (Way::Make, "a", "[]{}", "a\n"),
+    (
+        Way::Make,
+        "f(<term>){<list>}",
+        "[a{b},[1,2]]",
+        "f(a{b}){1,2}\n",
+    ),
 ];
 
 /// A text that is outside the grammar, and where.
 type Outside = Option<(Source, u32)>;
 
-/// A pattern, the text of a term or of arguments, the line of the refusal, and the place.
-type Refused = (&'static str, &'static str, &'static str, Outside);
+/// A pattern with its way, the text of a term or of arguments, the line of the refusal, and the
+/// place.
+type Refused = (Way, &'static str, &'static str, &'static str, Outside);
 
-static REFUSED_MATCHES: [Refused; 8] = [
-    ("<foo>", "a", "!pattern P1\n", None),
-    ("<int>{a}", "1", "!pattern P2\n", None),
-    ("<int>{<foo>}", "1", "!pattern P1\n", None),
-    ("", "a", "!pattern A\n", Some((Source::Pattern, 0))),
-    ("<foo>", "f(a", "!pattern P1\n", None),
-    ("a b", "f(a", "!pattern A\n", Some((Source::Pattern, 2))),
-    ("a", "f(a", "!term A\n", Some((Source::Term, 3))),
-    ("a", "", "!term A\n", Some((Source::Term, 0))),
-];
-
-static REFUSED_MAKES: [Refused; 12] = [
-    ("f(<int>)", "[]", "!args M1\n", None),
-    ("f(<int>)", "[1,2]", "!args M1\n", None),
-    ("f(<int>)", "[a]", "!args M2\n", None),
-    ("f(<list>)", "[[a]{b}]", "!args M2\n", None),
-    ("a", "b", "!args T1\n", None),
-    ("a", "[]{b}", "!args T1\n", None),
-    ("f(<int>)", "1", "!args T1\n", None),
-    ("<foo>", "(", "!pattern P1\n", None),
-    ("<int>{a}", "[a]", "!pattern P2\n", None),
-    ("f(", "[", "!pattern A\n", Some((Source::Pattern, 2))),
-    ("a", "[", "!args A\n", Some((Source::Args, 1))),
-    ("a", "", "!args A\n", Some((Source::Args, 0))),
+static REFUSED: [Refused; 20] = [
+    (Way::Match, "<foo>", "a", "!pattern P1\n", None),
+    (Way::Match, "<int>{a}", "1", "!pattern P2\n", None),
+    (Way::Match, "<int>{<foo>}", "1", "!pattern P1\n", None),
+    (
+        Way::Match,
+        "",
+        "a",
+        "!pattern A\n",
+        Some((Source::Pattern, 0)),
+    ),
+    (Way::Match, "<foo>", "f(a", "!pattern P1\n", None),
+    (
+        Way::Match,
+        "a b",
+        "f(a",
+        "!pattern A\n",
+        Some((Source::Pattern, 2)),
+    ),
+    (Way::Match, "a", "f(a", "!term A\n", Some((Source::Term, 3))),
+    (Way::Match, "a", "", "!term A\n", Some((Source::Term, 0))),
+    (Way::Make, "f(<int>)", "[]", "!args M1\n", None),
+    (Way::Make, "f(<int>)", "[1,2]", "!args M1\n", None),
+    (Way::Make, "f(<int>)", "[a]", "!args M2\n", None),
+    (Way::Make, "f(<list>)", "[[a]{b}]", "!args M2\n", None),
+    (Way::Make, "a", "b", "!args T1\n", None),
+    (Way::Make, "a", "[]{b}", "!args T1\n", None),
+    (Way::Make, "f(<int>)", "1", "!args T1\n", None),
+    (Way::Make, "<foo>", "(", "!pattern P1\n", None),
+    (Way::Make, "<int>{a}", "[a]", "!pattern P2\n", None),
+    (
+        Way::Make,
+        "f(",
+        "[",
+        "!pattern A\n",
+        Some((Source::Pattern, 2)),
+    ),
+    (Way::Make, "a", "[", "!args A\n", Some((Source::Args, 1))),
+    (Way::Make, "a", "", "!args A\n", Some((Source::Args, 0))),
 ];
 
 /// A pattern, the text of arguments, and which of them does not fit.
@@ -123,18 +157,18 @@ fn make_texts(alloc: Global, pattern: &str, args: &[u8]) -> Ran {
     }
 }
 
-#[test]
-fn matches(rt: HostRuntime) {
-    for (pattern, text, lines) in &MATCHES {
-        let ran = match_texts(rt.alloc(), pattern, text.as_bytes());
-        expect_ran(&rt, &ran, Finish::Done, None, lines);
+/// What a pattern's way came to.
+fn run_texts(alloc: Global, way: &Way, pattern: &str, text: &str) -> Ran {
+    match way {
+        Way::Match => match_texts(alloc, pattern, text.as_bytes()),
+        Way::Make => make_texts(alloc, pattern, text.as_bytes()),
     }
 }
 
 #[test]
-fn makes(rt: HostRuntime) {
-    for (pattern, args, lines) in &MAKES {
-        let ran = make_texts(rt.alloc(), pattern, args.as_bytes());
+fn matches_and_makes(rt: HostRuntime) {
+    for (way, pattern, text, lines) in &DONE {
+        let ran = run_texts(rt.alloc(), way, pattern, text);
         expect_ran(&rt, &ran, Finish::Done, None, lines);
     }
 }
@@ -153,17 +187,9 @@ fn expect_refused(rt: &impl Abort, ran: &Ran, line: &str, outside: Outside) {
 }
 
 #[test]
-fn refused_matches(rt: HostRuntime) {
-    for (pattern, text, line, outside) in &REFUSED_MATCHES {
-        let ran = match_texts(rt.alloc(), pattern, text.as_bytes());
-        expect_refused(&rt, &ran, line, *outside);
-    }
-}
-
-#[test]
-fn refused_makes(rt: HostRuntime) {
-    for (pattern, args, line, outside) in &REFUSED_MAKES {
-        let ran = make_texts(rt.alloc(), pattern, args.as_bytes());
+fn refused_matches_and_makes(rt: HostRuntime) {
+    for (way, pattern, text, line, outside) in &REFUSED {
+        let ran = run_texts(rt.alloc(), way, pattern, text);
         expect_refused(&rt, &ran, line, *outside);
     }
 }

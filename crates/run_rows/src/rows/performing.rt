@@ -47,6 +47,5 @@ pub(crate) fn expect_held(
     out: &Sink,
     held: &[u8],
 ) {
-    assert!(rt; ended == due);
-    assert!(rt; out.held.as_slice() == held);
+    assert!(rt; ended == due && out.held.as_slice() == held);
 }

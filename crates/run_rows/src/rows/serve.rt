@@ -60,32 +60,38 @@ fn converse_with(
     )
 }
 
+/// How many lines of a conversation were written whole, and the fault at which it stopped.
+fn stop(alloc: Global, requests: &mut Slow<'_>, out: &mut Sink) -> (u64, Option<ServeFault>) {
+    let end = converse_with(alloc, Q, requests, out);
+    (lines_in(out.held.as_slice()), fault_in(end))
+}
+
 /// A conversation whose reader fails at a read.
-fn fails_to_read(rt: &impl Abort, alloc: Global, at: usize) {
-    let mut out = taking(alloc);
+fn fails_to_read(rt: &impl Abort, alloc: Global, out: &mut Sink, at: usize) {
     let mut requests = failing(REQUESTS, at, ErrorKind::Other);
-    let end = converse_with(alloc, Q, &mut requests, &mut out);
-    let answered = lines_in(out.held.as_slice());
+    let (answered, fault) = stop(alloc, &mut requests, out);
     assert!(rt;
-        fault_in(end) == Some(ServeFault::Read { answered }),
+        fault == Some(ServeFault::Read { answered }) && requests.reads == at,
         "{at}"
     );
-    assert!(rt; requests.reads == at, "{at}");
-    expect_beginning(rt, &out);
+    expect_beginning(rt, out);
 }
 
 /// One whose writer fails at a write, or takes nothing.
-fn fails_to_write(rt: &impl Abort, alloc: Global, at: usize, error: Option<ErrorKind>) {
-    let mut out = failing_at(alloc, at, error);
-    let mut requests = bytewise(REQUESTS);
-    let end = converse_with(alloc, Q, &mut requests, &mut out);
-    let answered = lines_in(out.held.as_slice());
+fn fails_to_write(rt: &impl Abort, alloc: Global, out: &mut Sink, at: usize) {
+    let (answered, fault) = stop(alloc, &mut bytewise(REQUESTS), out);
     assert!(rt;
-        fault_in(end) == Some(ServeFault::Write { answered }),
+        fault == Some(ServeFault::Write { answered }) && out.writes == at,
         "{at}"
     );
-    assert!(rt; out.writes == at, "{at}");
-    expect_beginning(rt, &out);
+    expect_beginning(rt, out);
+}
+
+/// One whose writer cannot be flushed, before which no request is read.
+fn fails_to_flush(rt: &impl Abort, alloc: Global, out: &mut Sink, requests: &mut Slow<'_>) {
+    let (_, fault) = stop(alloc, requests, out);
+    assert!(rt; fault == Some(ServeFault::Write { answered: 0 }));
+    assert!(rt; requests.reads == 0 && out.held.is_empty());
 }
 
 #[test]
@@ -94,41 +100,43 @@ fn answers_each_request(rt: HostRuntime) {
     let mut out = taking(alloc);
     let mut requests = bytewise(REQUESTS);
     let end = converse_with(alloc, Q, &mut requests, &mut out);
-    assert!(rt; matches!(end, Ok(Ending::Done)));
-    assert!(rt; out.held.as_slice() == LINES.as_bytes());
+    assert!(rt; matches!(end, Ok(Ending::Done)) && out.held.as_slice() == LINES.as_bytes());
 }
 
 #[test]
 fn breaks_off_where_a_stream_fails(rt: HostRuntime) {
     let alloc = rt.alloc();
     for at in 1..=REQUESTS.len() {
-        fails_to_read(&rt, alloc, at);
+        fails_to_read(&rt, alloc, &mut taking(alloc), at);
     }
     for at in 1..=LINES.len() {
-        fails_to_write(&rt, alloc, at, Some(ErrorKind::Interrupted));
-        fails_to_write(&rt, alloc, at, None);
+        let error = Some(ErrorKind::Interrupted);
+        fails_to_write(&rt, alloc, &mut failing_at(alloc, at, error), at);
+        fails_to_write(&rt, alloc, &mut failing_at(alloc, at, None), at);
     }
-    let mut out = unflushed(alloc, ErrorKind::Other);
-    let mut requests = bytewise(REQUESTS);
-    let end = converse_with(alloc, Q, &mut requests, &mut out);
-    assert!(rt; fault_in(end) == Some(ServeFault::Write { answered: 0 }));
-    assert!(rt; requests.reads == 0 && out.held.is_empty());
+    let out = &mut unflushed(alloc, ErrorKind::Other);
+    fails_to_flush(&rt, alloc, out, &mut bytewise(REQUESTS));
 }
 
-#[test]
-fn a_refused_specification_is_enough(rt: HostRuntime) {
-    let alloc = rt.alloc();
-    let mut out = taking(alloc);
-    let mut requests = bytewise(REQUESTS);
+/// Stops where a specification without a sort's name is not refused before a request is read.
+fn expect_spoilt(rt: &impl Abort, alloc: Global, out: &mut Sink, requests: &mut Slow<'_>) {
     let spec = "REC-SPEC E SORTS : END-SPEC";
-    let Ok(ending) = converse_with(alloc, spec, &mut requests, &mut out) else {
+    let Ok(ending) = converse_with(alloc, spec, requests, out) else {
         panic!(rt; "a stream refused")
     };
     let text = Source::Spec;
     let rule = Named::G;
     assert!(rt; matches!(ending, Ending::Refused(_)) && requests.reads == 0);
-    assert!(rt; ending.place() == Some(Place { text, rule, at: 17 }));
-    assert!(rt; out.held.as_slice() == b"!spec G\n".as_slice());
+    assert!(rt;
+        ending.place() == Some(Place { text, rule, at: 17 })
+            && out.held.as_slice() == b"!spec G\n".as_slice()
+    );
+}
+
+#[test]
+fn a_refused_specification_is_enough(rt: HostRuntime) {
+    let out = &mut taking(rt.alloc());
+    expect_spoilt(&rt, rt.alloc(), out, &mut bytewise(REQUESTS));
 }
 
 /// An engine for a specification, over a bank of its own.
@@ -142,34 +150,36 @@ fn engine_for(rt: &impl Abort, alloc: Global, mut spec: &[u8]) -> Box<Engine<Sha
 /// The engine of a specification that was read.
 fn boxed_engine(rt: &impl Abort, alloc: Global, checked: Checked) -> Box<Engine<SharedBank>> {
     let bank = SharedBank::new(alloc, 1000).expect(rt, "memory");
-    let Ok(engine) = engine_over(alloc, checked, bank, None, options(1, false)) else {
+    let made = engine_over(alloc, checked, bank, None, options(1, false));
+    boxed(rt, alloc, made)
+}
+
+/// An engine that was made.
+fn boxed(
+    rt: &impl Abort,
+    alloc: Global,
+    made: Result<Engine<SharedBank>, SharedBank>,
+) -> Box<Engine<SharedBank>> {
+    let Ok(engine) = made else {
         panic!(rt; "memory")
     };
     Box::new(alloc, engine).expect(rt, "memory")
 }
 
-/// Stops where a request has another answer, or is refused.
+/// Stops where a request has another answer than this line, or is not refused so.
 fn expect_answer(
     rt: &impl Abort,
     alloc: Global,
     engine: &mut Engine<SharedBank>,
     request: &[u8],
-    line: &[u8],
+    due: Result<&[u8], Refusal>,
 ) {
     let answered = answer(alloc, engine, request, options(1, false)).expect(rt, "memory");
-    assert!(rt; answered.text.as_slice() == line && answered.refusal.is_none());
-}
-
-/// Stops where a request is not refused so.
-fn expect_refusal(
-    rt: &impl Abort,
-    alloc: Global,
-    engine: &mut Engine<SharedBank>,
-    request: &[u8],
-    refusal: Refusal,
-) {
-    let answered = answer(alloc, engine, request, options(1, false)).expect(rt, "memory");
-    assert!(rt; answered.refusal == Some(refusal));
+    let is_due = match due {
+        Ok(line) => answered.text.as_slice() == line && answered.refusal.is_none(),
+        Err(refusal) => answered.refusal == Some(refusal),
+    };
+    assert!(rt; is_due);
 }
 
 /// A request that has no room in a bank of three cells.
@@ -181,11 +191,10 @@ fn wants_cells(rt: &impl Abort, alloc: Global, engine: &mut Engine<SharedBank>) 
 }
 
 /// A conversation over the engine.
-fn converses(rt: &impl Abort, alloc: Global, engine: &mut Engine<SharedBank>) {
-    let mut out = taking(alloc);
+fn converses(rt: &impl Abort, alloc: Global, engine: &mut Engine<SharedBank>, out: &mut Sink) {
     let mut requests = bytewise("f(a)\nf(b)\n");
     let options = options(1, false);
-    let end = converse(alloc, engine, &mut requests, &mut out, options, &mut Deaf);
+    let end = converse(alloc, engine, &mut requests, out, options, &mut Deaf);
     assert!(rt; end == Ok(()) && out.held.as_slice() == b"a\n!term T6\n".as_slice());
 }
 
@@ -193,8 +202,9 @@ fn converses(rt: &impl Abort, alloc: Global, engine: &mut Engine<SharedBank>) {
 fn answers_over_an_engine(rt: HostRuntime) {
     let alloc = rt.alloc();
     let mut engine = engine_for(&rt, alloc, Q.as_bytes());
-    expect_answer(&rt, alloc, &mut engine, b"f(a){b}", b"a{b}\n");
-    expect_refusal(&rt, alloc, &mut engine, b"f(", Refusal::Outside { at: 2 });
+    expect_answer(&rt, alloc, &mut engine, b"f(a){b}", Ok(b"a{b}\n"));
+    let outside = Err(Refusal::Outside { at: 2 });
+    expect_answer(&rt, alloc, &mut engine, b"f(", outside);
     wants_cells(&rt, alloc, &mut engine);
-    converses(&rt, alloc, &mut engine);
+    converses(&rt, alloc, &mut engine, &mut taking(alloc));
 }

@@ -5,27 +5,24 @@ use rec_run::{Finish, Named, Place, Source, run_aterm_at, run_share_at};
 use std::alloc::Global;
 use std::process::Abort;
 
-/// A text of a term, and what it is printed as.
-type Line = (&'static str, &'static str);
+/// Whether cells are counted, a text of a term, and the lines.
+type Row = (bool, &'static str, &'static str);
 
-static PRINTED: [Line; 10] = [
-    ("f ( a , [ 1 , -007 ] ) { b }", "f(a,[1,-7]){b}\n"),
-    ("f()", "f\n"),
-    ("()", "()\n"),
-    ("a{}", "a\n"),
-    ("2147483647", "2147483647\n"),
-    ("-2147483648", "-2147483648\n"),
-    ("-0", "0\n"),
-    ("\"a\\012\\\"\\377\"", "\"a\\n\\\"\\377\"\n"),
-    ("\"\u{e9}\"", "\"\\303\\251\"\n"),
-    ("<7>{7}", "<7>{7}\n"),
-];
-
-static COUNTED: [Line; 4] = [
-    ("f(a,a)", "f(a,a)\ncells 5\n"),
-    ("[1,[1]]", "[1,[1]]\ncells 5\n"),
-    ("a{b}", "a{b}\ncells 4\n"),
-    ("[a]{b}", "[a]{b}\ncells 5\n"),
+static PRINTED: [Row; 14] = [
+    (false, "f ( a , [ 1 , -007 ] ) { b }", "f(a,[1,-7]){b}\n"),
+    (false, "f()", "f\n"),
+    (false, "()", "()\n"),
+    (false, "a{}", "a\n"),
+    (false, "2147483647", "2147483647\n"),
+    (false, "-2147483648", "-2147483648\n"),
+    (false, "-0", "0\n"),
+    (false, "\"a\\012\\\"\\377\"", "\"a\\n\\\"\\377\"\n"),
+    (false, "\"\u{e9}\"", "\"\\303\\251\"\n"),
+    (false, "<7>{7}", "<7>{7}\n"),
+    (true, "f(a,a)", "f(a,a)\ncells 5\n"),
+    (true, "[1,[1]]", "[1,[1]]\ncells 5\n"),
+    (true, "a{b}", "a{b}\ncells 4\n"),
+    (true, "[a]{b}", "[a]{b}\ncells 5\n"),
 ];
 
 /// Texts outside the grammar, with their places.
@@ -67,18 +64,19 @@ fn share(alloc: Global, mut text: &[u8]) -> Ran {
     }
 }
 
-#[test]
-fn printed(rt: HostRuntime) {
-    for (text, line) in &PRINTED {
-        let ran = print(rt.alloc(), text.as_bytes());
-        expect_ran(&rt, &ran, Finish::Done, None, line);
+/// What printing a text came to, and counting its cells where that is asked for.
+fn print_or_share(alloc: Global, counts: bool, text: &str) -> Ran {
+    if counts {
+        share(alloc, text.as_bytes())
+    } else {
+        print(alloc, text.as_bytes())
     }
 }
 
 #[test]
-fn counted(rt: HostRuntime) {
-    for (text, lines) in &COUNTED {
-        let ran = share(rt.alloc(), text.as_bytes());
+fn printed_and_counted(rt: HostRuntime) {
+    for (counts, text, lines) in &PRINTED {
+        let ran = print_or_share(rt.alloc(), *counts, text);
         expect_ran(&rt, &ran, Finish::Done, None, lines);
     }
 }
@@ -107,12 +105,13 @@ const WHOLE: &[u8] = b"f(a,[1,-7]){b}";
 /// on, or the front is not refused, if it is no term.
 fn expect_front(rt: &impl Abort, ran: &Ran, front: &[u8]) {
     let written = ran.written.as_slice();
-    if front.len() == 1 || front.len() == 11 {
-        assert!(rt; ran.result == Ok(Finish::Done));
-        assert!(rt; written.len() > front.len() && written.starts_with(front));
+    let (finish, is_due) = if front.len() == 1 || front.len() == 11 {
+        let goes_on = written.len() > front.len() && written.starts_with(front);
+        (Finish::Done, goes_on)
     } else {
-        assert!(rt; ran.result == Ok(Finish::Refused) && written == REFUSAL.as_bytes());
-    }
+        (Finish::Refused, written == REFUSAL.as_bytes())
+    };
+    assert!(rt; ran.result == Ok(finish) && is_due);
 }
 
 #[test]
