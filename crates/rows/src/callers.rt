@@ -125,8 +125,14 @@ fn keep_one<B: TermBank>(rt: &impl Abort, bank: &mut B) {
     assert!(rt; bank.cells() == 9);
     let y = y_at(rt, bank, 3, 8);
     // y{at(3,8)}, [at(3,8)], at(3,8), [3,8], [8], 8, and the constant y
-    assert!(rt; bank.cells() == 16 && bank.holds(x));
-    assert!(rt; keep(bank, x) == Ok(8));
+    assert!(rt; bank.cells() == 16);
+    keep_first(rt, bank, x, y);
+}
+
+/// The same of what is left of two terms, where the first one alone is kept.
+fn keep_first<B: TermBank>(rt: &impl Abort, bank: &mut B, x: Term, y: Term) {
+    assert!(rt; bank.holds(x));
+    assert!(rt; matches!(keep(bank, x), Ok(8)));
     assert!(rt; bank.holds(x) && !bank.holds(y));
 }
 

@@ -1,5 +1,8 @@
 //! Banks of both kinds, and the terms in them.
 
+ghost use Rattle.std.specs.Prelude.{IsSome};
+ghost use Rattle.rx_term.specs.Store.{tree_at};
+
 use rx_plain::PlainBank;
 use rx_shared::SharedBank;
 use rx_term::{Term, TermBank};
@@ -19,9 +22,28 @@ pub fn shared_bank(rt: &impl Abort, alloc: Global, cap: u32) -> SharedBank {
     SharedBank::new(alloc, cap).expect(rt, "a bank")
 }
 
+/// A bank of no terms, which shares none, in a box, which is less to carry.
+pub fn plain_box(rt: &impl Abort, alloc: Global, cap: u32) -> Box<PlainBank> {
+    Box::new(alloc, plain_bank(rt, alloc, cap)).expect(rt, "memory")
+}
+
+/// The same of one which shares all.
+pub fn shared_box(rt: &impl Abort, alloc: Global, cap: u32) -> Box<SharedBank> {
+    Box::new(alloc, shared_bank(rt, alloc, cap)).expect(rt, "memory")
+}
+
 /// The term of a text.
 pub fn term_of<B: TermBank>(rt: &impl Abort, alloc: Global, bank: &mut B, text: &[u8]) -> Term {
     read(alloc, text, bank).expect(rt, "a term")
+}
+
+/// Stops unless a bank holds three terms.
+pub fn expect_held<B: TermBank>(rt: &impl Abort, bank: &B, terms: (Term, Term, Term))
+    ensures first { IsSome (tree_at (B.store bank.now) terms.0) }
+    ensures second { IsSome (tree_at (B.store bank.now) terms.1) }
+    ensures third { IsSome (tree_at (B.store bank.now) terms.2) }
+{
+    assert!(rt; bank.holds(terms.0) && bank.holds(terms.1) && bank.holds(terms.2));
 }
 
 /// The text of a term.

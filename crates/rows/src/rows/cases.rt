@@ -25,7 +25,7 @@ pub enum Question {
     Cells(engine::Cells),
     Depth(depth::Waits),
     Values(values::Values),
-    Observed(observed::Counts),
+    Observed(&'static [observed::Step]),
     Trace(trace::Traced),
 }
 
@@ -63,7 +63,7 @@ fn ask<B: TermBank>(rt: &impl Abort, alloc: Global, engine: &mut Engine<B>, ques
         Question::Cells(cells) => engine::ask(rt, alloc, engine, cells),
         Question::Depth(waits) => depth::ask(rt, alloc, engine, waits),
         Question::Values(values) => values::ask(rt, alloc, engine, values),
-        Question::Observed(counts) => observed::ask(rt, alloc, engine, counts),
+        Question::Observed(steps) => observed::ask(rt, alloc, engine, steps),
         Question::Trace(traced) => trace::ask(rt, alloc, engine, traced),
     }
 }
@@ -75,18 +75,21 @@ fn engine_for<B: TermBank + Drop>(
     spec: &[u8],
     bank: B,
     options: Options,
-) -> Engine<B> {
-    assert!(rt; options.memo <= 1_048_576);
-    assert!(rt; options.reclaim_every >= 1);
-    assert!(rt; options.reclaim_every <= 1_073_741_824);
+) -> Box<Engine<B>> {
+    assert!(rt;
+        options.memo <= 1_048_576
+            && options.reclaim_every >= 1
+            && options.reclaim_every <= 1_073_741_824
+    );
     let checked = checked_spec(rt, alloc, spec);
-    Engine::new(alloc, checked, bank, options).expect(rt, "an engine")
+    let engine = Engine::new(alloc, checked, bank, options).expect(rt, "an engine");
+    Box::new(alloc, engine).expect(rt, "memory")
 }
 
 /// Asks an engine over a bank.
 fn ask_over<B: TermBank + Drop>(rt: &impl Abort, alloc: Global, case: &Case, bank: B) {
     let mut engine = engine_for(rt, alloc, case.spec, bank, case.options);
-    ask(rt, alloc, &mut engine, &case.question);
+    ask(rt, alloc, &mut *engine, &case.question);
 }
 
 /// Stops where the engine of a case answers otherwise.

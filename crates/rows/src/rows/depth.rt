@@ -1,8 +1,8 @@
 //! How many calls may wait at once.
 
 use crate::rows::cases::{Bank, Case, OPTIONS, Question, expect_cases};
-use crate::rows::engine::{ADD, End, HIT, PAIR, Row, SUM, expect_rows, has_ended, value_of};
-use crate::rows::values::{ADDITION, SUCCESSOR, ZERO, apply_to, constant};
+use crate::rows::engine::{ADD, End, HIT, PAIR, Row, SUM, expect_rows, has_ended};
+use crate::rows::values::{ADDITION, expect_addends, expect_in_two, one_and_zero};
 use rec_engine::{DepthFault, Engine, Outcome};
 use rx_term::{Term, TermBank};
 use std::alloc::Global;
@@ -60,31 +60,24 @@ fn is_deep(outcome: Result<Outcome, DepthFault>) -> bool {
     matches!(outcome, Err(DepthFault::Deep))
 }
 
-/// The call of a symbol on two values, where so many calls may wait; the first value is kept.
+/// What the sum of two values comes to within two steps, where so many calls may wait; the first
+/// value is kept.
 fn call_on_both_within<B: TermBank>(
     rt: &impl Abort,
     engine: &mut Engine<B>,
-    symbol: u32,
     (first, second): (Term, Term),
-    n: u64,
     depth: u32,
 ) -> Result<Outcome, DepthFault> {
-    assert!(rt; engine.bank().holds(first) && engine.bank().holds(second));
-    assert!(rt; symbol < engine.checked().symbols());
-    assert!(rt; engine.checked().arity(symbol) == 2);
-    engine.call_within(first, symbol, &[first, second], n, depth)
+    expect_addends(rt, engine, (first, second));
+    engine.call_within(first, ADDITION, &[first, second], 2, depth)
 }
 
 /// Stops unless one waits for `add(s(z),z)`.
 fn waits_in_call<B: TermBank>(rt: &impl Abort, engine: &mut Engine<B>) {
-    let empty = engine.nil().expect(rt, "the empty list");
-    let zero = constant(rt, engine, empty, ZERO);
-    let one = apply_to(rt, engine, SUCCESSOR, zero);
-    let both = (one, zero);
-    assert!(rt; is_deep(call_on_both_within(rt, engine, ADDITION, both, 2, 0)));
-    let outcome = call_on_both_within(rt, engine, ADDITION, both, 2, 1).expect(rt, "an outcome");
-    let (value, steps) = value_of(outcome).expect(rt, "a value");
-    assert!(rt; value == one && steps == 2);
+    let both = one_and_zero(rt, engine);
+    assert!(rt; is_deep(call_on_both_within(rt, engine, both, 0)));
+    let outcome = call_on_both_within(rt, engine, both, 1).expect(rt, "an outcome");
+    expect_in_two(rt, outcome, both.0);
 }
 
 /// Which calls wait.

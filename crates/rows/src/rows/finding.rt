@@ -7,9 +7,9 @@ ghost use Rattle.rx_term.specs.Walks.{AllHeld};
 ghost use Rattle.rec_match.specs.Matching.{CanFind, first_rule};
 ghost use Rattle.rec_match.specs.Next.{AreReady};
 
-use crate::rows::banks::{expect_text, shared_bank, term_of};
+use crate::rows::banks::{expect_text, shared_box, term_of};
 use crate::rows::matcher::build;
-use crate::rows::texts::checked_spec;
+use crate::rows::texts::checked_box;
 use rec_match::{Glance, Hit, Matcher, Place, Values};
 use rec_sorts::Checked;
 use rx_term::{Term, TermBank};
@@ -129,17 +129,22 @@ struct Answer {
     at_once: bool,
 }
 
+/// What stands in the register of a place.
+fn value_at(rt: &impl Abort, registers: &[Term], place: Place) -> Term {
+    let register = match place {
+        Place::First(register) => register,
+        Place::Again { register, value: _ } => register,
+    };
+    assert!(rt; (register as usize) < registers.len());
+    registers[register as usize]
+}
+
 /// What stands in registers, which are counted from the first argument on.
 fn read(rt: &impl Abort, places: &[Place], work: &Vec<Term>) -> Vec<Term> {
     assert!(rt; work.len() > 0);
     let (mut values, registers) = (Vec::new(*work.allocator()), &work[1..]);
     for place in places {
-        let register = match *place {
-            Place::First(register) => register,
-            Place::Again { register, value: _ } => register,
-        };
-        assert!(rt; (register as usize) < registers.len());
-        assert!(rt; values.push(registers[register as usize]).is_ok());
+        assert!(rt; values.push(value_at(rt, registers, *place)).is_ok());
     }
     values
 }
@@ -262,6 +267,18 @@ fn expect_texts<B: TermBank>(
     }
 }
 
+/// Stops where another rule is found than that of a row, or other values.
+fn expect_answer<B: TermBank>(
+    rt: &impl Abort,
+    alloc: Global,
+    bank: &B,
+    answer: &Answer,
+    row: &Row,
+) {
+    assert!(rt; answer.rule == row.3);
+    expect_texts(rt, alloc, bank, &answer.values, row.4);
+}
+
 /// A reference, and the arguments of a row.
 fn terms_of<B: TermBank>(rt: &impl Abort, alloc: Global, bank: &mut B, row: &Row) -> [Term; 3] {
     let below = term_of(rt, alloc, bank, b"below");
@@ -273,7 +290,7 @@ fn terms_of<B: TermBank>(rt: &impl Abort, alloc: Global, bank: &mut B, row: &Row
 /// A specification, and how its rules are searched for.
 #[derive(Drop)]
 struct Asked<'a> {
-    checked: Checked,
+    checked: Box<Checked>,
     search: &'a Search,
 }
 
@@ -286,21 +303,19 @@ fn expect_row<B: TermBank>(rt: &impl Abort, alloc: Global, bank: &mut B, asked: 
         Search::FromOneOn => find(rt, bank, &matcher, work, row),
         _ => look(rt, bank, &matcher, work, row),
     };
-    assert!(rt; answer.rule == row.3);
     expect_at_once(rt, &answer, asked.search);
-    expect_texts(rt, alloc, bank, &answer.values, row.4);
+    expect_answer(rt, alloc, bank, &answer, row);
 }
 
 /// The same in a bank of its own.
 fn expect_row_alone(rt: &impl Abort, alloc: Global, asked: &Asked, row: &Row) {
-    let mut bank = shared_bank(rt, alloc, 100);
-    expect_row(rt, alloc, &mut bank, asked, row);
+    expect_row(rt, alloc, &mut *shared_box(rt, alloc, 100), asked, row);
 }
 
 /// The same of each row.
 fn expect_case(rt: &impl Abort, alloc: Global, case: &Case) {
     let asked = Asked {
-        checked: checked_spec(rt, alloc, case.0),
+        checked: checked_box(rt, alloc, case.0),
         search: &case.1,
     };
     for row in case.2 {

@@ -1,7 +1,7 @@
 //! The rules of given terms, row by row, and their letters.
 
-use crate::rows::banks::{plain_bank, term_of};
-use crate::rows::texts::{ADD, Nest, Q, checked_spec, expect};
+use crate::rows::banks::{plain_box, term_of};
+use crate::rows::texts::{ADD, Nest, Q, checked_box, expect};
 use rec_sorts::{Checked, Letter, Meaning, TermsFault, broken_element, check_terms, term_letters};
 use rx_term::TermBank;
 use std::alloc::Global;
@@ -92,13 +92,18 @@ fn broken_in<B: TermBank>(
 
 /// The same, in a bank of its own.
 fn broken_rule(rt: &impl Abort, alloc: Global, checked: &Checked, terms: &[u8]) -> Option<u8> {
-    let mut bank = plain_bank(rt, alloc, 10_000);
-    broken_in(rt, alloc, checked, &mut bank, terms)
+    broken_in(
+        rt,
+        alloc,
+        checked,
+        &mut *plain_box(rt, alloc, 10_000),
+        terms,
+    )
 }
 
 /// The same of the terms beside the text of a specification.
 fn broken_beside(rt: &impl Abort, alloc: Global, spec: &str, terms: &[u8]) -> Option<u8> {
-    let checked = checked_spec(rt, alloc, spec.as_bytes());
+    let checked = checked_box(rt, alloc, spec.as_bytes());
     broken_rule(rt, alloc, &checked, terms)
 }
 
@@ -197,16 +202,16 @@ enum Question {
 
 /// Stops where a specification answers otherwise.
 fn ask(rt: &impl Abort, alloc: Global, checked: &Checked, question: &Question) {
-    let mut bank = plain_bank(rt, alloc, 1000);
+    let bank = &mut *plain_box(rt, alloc, 1000);
     match question {
-        Question::First => expect_first(rt, alloc, checked, &mut bank),
-        Question::Letters => expect_sums(rt, alloc, checked, &mut bank),
+        Question::First => expect_first(rt, alloc, checked, bank),
+        Question::Letters => expect_sums(rt, alloc, checked, bank),
     }
 }
 
 /// The same of the text of a specification.
 fn ask_spec(rt: &impl Abort, alloc: Global, spec: &str, question: &Question) {
-    let checked = checked_spec(rt, alloc, spec.as_bytes());
+    let checked = checked_box(rt, alloc, spec.as_bytes());
     ask(rt, alloc, &checked, question);
 }
 

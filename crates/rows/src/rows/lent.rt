@@ -3,7 +3,8 @@
 
 ghost use Rattle.std.specs.Prelude.{◌≡◌, ◌∷◌, []};
 
-use crate::rows::banks::expect_text;
+use crate::rows::banks::{expect_held, expect_text};
+use crate::rows::pattern::only;
 use crate::rows::values::{ADDITION, SUCCESSOR, ZERO, apply_to, constant};
 use rec_engine::Engine;
 use rx_term::{Term, TermBank};
@@ -22,38 +23,66 @@ fn stack_of(rt: &impl Abort, alloc: Global, below: Term, above: (Term, Term)) ->
     stack
 }
 
-/// The application of a symbol to two values, made on top of another one, which stays.
-fn apply_above<B: TermBank>(
+/// Stops where a stack has other values.
+fn expect_terms(rt: &impl Abort, stack: &[Term], values: &[Term]) {
+    assert!(rt; stack == values);
+}
+
+/// Makes the sum of the two upper values of a stack in their place.
+fn add_on<B: TermBank>(
+    rt: &impl Abort,
+    engine: &mut Engine<B>,
+    stack: &mut Vec<Term>,
+    values: (Term, Term, Term),
+)
+    requires { stack.old.items ≡ values.0 ∷ values.1 ∷ values.2 ∷ [] }
+{
+    expect_held(rt, engine.bank(), values);
+    let checked = engine.checked();
+    assert!(rt; ADDITION < checked.symbols() && checked.arity(ADDITION) == 2);
+    engine
+        .apply_on(stack, ADDITION, 2)
+        .expect(rt, "an application");
+}
+
+/// The sum of two values, made on top of another one, which stays.
+fn add_above<B: TermBank>(
     rt: &impl Abort,
     alloc: Global,
     engine: &mut Engine<B>,
-    symbol: u32,
-    (below, first, second): (Term, Term, Term),
+    values: (Term, Term, Term),
 ) -> Term {
-    assert!(rt; engine.bank().holds(below));
-    assert!(rt; engine.bank().holds(first) && engine.bank().holds(second));
-    assert!(rt; symbol < engine.checked().symbols());
-    assert!(rt; engine.checked().arity(symbol) == 2);
-    let mut stack = stack_of(rt, alloc, below, (first, second));
-    engine
-        .apply_on(&mut stack, symbol, 2)
-        .expect(rt, "an application");
-    assert!(rt; stack.len() == 2 && stack[0] == below);
-    stack[1]
+    let mut stack = stack_of(rt, alloc, values.0, (values.1, values.2));
+    add_on(rt, engine, &mut stack, values);
+    let sum = stack.pop().expect(rt, "a sum");
+    expect_terms(rt, &stack, &[values.0]);
+    sum
 }
 
-/// The list of the value above another one of a stack, which stays as it is.
+/// The list of a value that stands twice above another one of a stack.
+fn list_on<B: TermBank>(
+    rt: &impl Abort,
+    engine: &mut Engine<B>,
+    stack: &mut Vec<Term>,
+    values: (Term, Term),
+) -> Term
+    requires { stack.old.items ≡ values.0 ∷ values.1 ∷ values.1 ∷ [] }
+{
+    let empty = engine.nil().expect(rt, "the empty list");
+    expect_held(rt, engine.bank(), (values.0, values.1, values.1));
+    engine.hold_on(stack, 1, empty).expect(rt, "a list")
+}
+
+/// The list of a value, made on top of a stack of that and of another one, which stays as it is.
 fn list_above<B: TermBank>(
     rt: &impl Abort,
     alloc: Global,
     engine: &mut Engine<B>,
-    (below, value): (Term, Term),
+    values: (Term, Term),
 ) -> Term {
-    let empty = engine.nil().expect(rt, "the empty list");
-    assert!(rt; engine.bank().holds(below) && engine.bank().holds(value));
-    let mut stack = stack_of(rt, alloc, below, (value, value));
-    let list = engine.hold_on(&mut stack, 1, empty).expect(rt, "a list");
-    assert!(rt; stack.len() == 3 && stack[0] == below && stack[1] == value);
+    let mut stack = stack_of(rt, alloc, values.0, (values.1, values.1));
+    let list = list_on(rt, engine, &mut stack, values);
+    expect_terms(rt, &stack, &[values.0, values.1, values.1]);
     list
 }
 
@@ -66,8 +95,7 @@ fn rule_with_room<B: TermBank>(
 ) -> Option<u32> {
     assert!(rt; engine.bank().holds(t));
     let mut values = SmallVec::new(alloc);
-    let mut room = Vec::new(alloc);
-    room.push(t).expect(rt, "room for a value");
+    let mut room = only(rt, alloc, t);
     engine
         .matcher()
         .next_on(engine.bank(), t, 0, &mut room, &mut values)
@@ -79,7 +107,7 @@ pub fn makes_values_on<B: TermBank>(rt: &impl Abort, alloc: Global, engine: &mut
     let empty = engine.nil().expect(rt, "the empty list");
     let zero = constant(rt, engine, empty, ZERO);
     let one = apply_to(rt, engine, SUCCESSOR, zero);
-    let sum = apply_above(rt, alloc, engine, ADDITION, (one, one, zero));
+    let sum = add_above(rt, alloc, engine, (one, one, zero));
     expect_text(rt, alloc, engine.bank(), sum, b"add(s(z),z)");
     assert!(rt; rule_with_room(rt, alloc, engine, sum) == Some(1));
     let list = list_above(rt, alloc, engine, (one, sum));

@@ -3,8 +3,8 @@
 ghost use Rattle.std.specs.Prelude.{◌≡◌, length};
 ghost use Rattle.rec_sorts.specs.Lookup.{symbols};
 
-use crate::rows::banks::plain_bank;
-use crate::rows::texts::{ADD, checked_spec};
+use crate::rows::banks::plain_box;
+use crate::rows::texts::{ADD, checked_box};
 use rec_sorts::{Checked, Links};
 use rx_plain::PlainBank;
 use rx_term::{Symbol, TermBank};
@@ -58,9 +58,13 @@ fn link_primed(rt: &impl Abort, alloc: Global, checked: &Checked, bank: &mut Pla
 fn link_foreign(rt: &impl Abort, alloc: Global, checked: &Checked, bank: &mut PlainBank) {
     let unary = bank.symbol(b"plus", false, 1).expect(rt, "a symbol");
     let links = link(rt, alloc, checked, bank);
+    expect_none(rt, &links, bank, unary);
+}
+
+/// Stops where a symbol, or that of a quoted name, is one of a specification.
+fn expect_none(rt: &impl Abort, links: &Links, bank: &mut PlainBank, unary: Symbol) {
     let quoted = bank.symbol(b"z", true, 0).expect(rt, "a symbol");
-    assert!(rt; links.op_of(unary) == None);
-    assert!(rt; links.op_of(quoted) == None);
+    assert!(rt; links.op_of(unary).is_none() && links.op_of(quoted).is_none());
 }
 
 /// Which symbols are linked.
@@ -73,17 +77,17 @@ enum Linked {
 
 /// Stops where symbols of a specification have other numbers.
 fn expect_linked(rt: &impl Abort, alloc: Global, checked: &Checked, linked: &Linked) {
-    let mut bank = plain_bank(rt, alloc, 10);
+    let bank = &mut *plain_box(rt, alloc, 10);
     match linked {
-        Linked::Addition => link_addition(rt, alloc, checked, &mut bank),
-        Linked::Primed => link_primed(rt, alloc, checked, &mut bank),
-        Linked::Foreign => link_foreign(rt, alloc, checked, &mut bank),
+        Linked::Addition => link_addition(rt, alloc, checked, bank),
+        Linked::Primed => link_primed(rt, alloc, checked, bank),
+        Linked::Foreign => link_foreign(rt, alloc, checked, bank),
     }
 }
 
 /// The same of the text of a specification.
 fn expect_spec(rt: &impl Abort, alloc: Global, spec: &str, linked: &Linked) {
-    let checked = checked_spec(rt, alloc, spec.as_bytes());
+    let checked = checked_box(rt, alloc, spec.as_bytes());
     expect_linked(rt, alloc, &checked, linked);
 }
 

@@ -7,7 +7,7 @@ ghost use Rattle.rec_match.specs.Next.{AreReady};
 
 use crate::rows::banks::{plain_bank, term_of};
 use crate::rows::counting::Counting;
-use crate::rows::texts::{checked_spec, expect, push};
+use crate::rows::texts::{checked_box, expect, push};
 use rec_match::Matcher;
 use rec_sorts::{Checked, Links};
 use rx_plain::PlainBank;
@@ -124,12 +124,13 @@ pub fn build<B: TermBank>(
     alloc: Global,
     bank: &mut B,
     checked: &Checked,
-) -> Matcher
-    ensures ready { AreReady (B.store bank.new) result }
+) -> Box<Matcher>
+    ensures ready { AreReady (B.store bank.new) result.value }
     ensures same { HasMoreSymbols (B.store bank.old) (B.store bank.new) }
 {
     let links = link(rt, alloc, bank, checked);
-    Matcher::build(alloc, checked, &links).expect(rt, "a matcher")
+    let matcher = Matcher::build(alloc, checked, &links).expect(rt, "a matcher");
+    Box::new(alloc, matcher).expect(rt, "memory")
 }
 
 /// Whether just these of some terms are one.
@@ -183,23 +184,24 @@ fn expect_row<B: TermBank>(
 }
 
 /// A bank of 100 cells that counts how often its nodes are read.
-fn counting(rt: &impl Abort, alloc: Global) -> Counting<PlainBank> {
-    Counting {
+fn counting(rt: &impl Abort, alloc: Global) -> Box<Counting<PlainBank>> {
+    let counting = Counting {
         bank: plain_bank(rt, alloc, 100),
         reads: Cell::new(0),
-    }
+    };
+    Box::new(alloc, counting).expect(rt, "memory")
 }
 
 /// The same in a bank of its own, of whose nodes few are read.
 fn expect_row_alone(rt: &impl Abort, alloc: Global, checked: &Checked, row: &Row) {
     let mut bank = counting(rt, alloc);
-    expect_row(rt, alloc, &mut bank, checked, row);
+    expect_row(rt, alloc, &mut *bank, checked, row);
     expect(rt, bank.reads.get() < 100, row.0);
 }
 
 /// The same of each row, and of the text of a specification.
 fn expect_rows(rt: &impl Abort, alloc: Global, spec: &[u8], rows: &[Row]) {
-    let checked = checked_spec(rt, alloc, spec);
+    let checked = checked_box(rt, alloc, spec);
     for row in rows {
         expect_row_alone(rt, alloc, &checked, row);
     }
@@ -222,14 +224,15 @@ fn trees_of(matcher: &Matcher, number: usize) -> usize {
 
 /// The same of the matcher of a checked specification.
 fn trees_in(rt: &impl Abort, alloc: Global, checked: &Checked, number: usize) -> usize {
-    let mut bank = counting(rt, alloc);
-    let matcher = build(rt, alloc, &mut bank, checked);
-    trees_of(&matcher, number)
+    trees_of(
+        &build(rt, alloc, &mut *counting(rt, alloc), checked),
+        number,
+    )
 }
 
 /// The same of the text of a specification.
 fn trees(rt: &impl Abort, alloc: Global, spec: &[u8], number: usize) -> usize {
-    let checked = checked_spec(rt, alloc, spec);
+    let checked = checked_box(rt, alloc, spec);
     trees_in(rt, alloc, &checked, number)
 }
 

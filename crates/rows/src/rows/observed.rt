@@ -5,7 +5,8 @@ use crate::rows::engine::{
     ADD, COND, End, FAST, FAST_STEPS, HIT, ONE, PAIR, Row, SUM, TWENTY, TWO, ZERO, count_values,
     expect_rows, has_ended,
 };
-use rec_engine::{DepthFault, Engine, EngineFault, Outcome, RuleCount, Watch};
+use crate::rows::texts::expect;
+use rec_engine::{DepthFault, Engine, EngineFault, Outcome, RuleCount, Tally, Watch};
 use rx_term::TermBank;
 use std::alloc::Global;
 use std::process::Abort;
@@ -93,20 +94,18 @@ fn watch_first<B: TermBank>(
     }
 }
 
-/// Stops unless the sum ends as the rows say, and a witness hears of each end once.
-fn expect_told<B: TermBank>(rt: &impl Abort, alloc: Global, engine: &mut Engine<B>, rows: &[Told]) {
+/// Stops unless the sum ends as a row says, and a witness hears of that once.
+fn expect_end<B: TermBank>(rt: &impl Abort, alloc: Global, engine: &mut Engine<B>, row: &Told) {
     let mut witness = NOTHING;
-    let mut ends: u32 = 0;
+    let outcome = watch_first(rt, engine, row.0, row.1, &mut witness);
+    let holds = has_ended(rt, alloc, engine.bank(), outcome, &row.2) && witness.ceased == 1;
+    assert!(rt; holds, "{} steps, {:?} calls", row.0, row.1);
+}
+
+/// The same of each row.
+fn expect_told<B: TermBank>(rt: &impl Abort, alloc: Global, engine: &mut Engine<B>, rows: &[Told]) {
     for row in rows {
-        let outcome = watch_first(rt, engine, row.0, row.1, &mut witness);
-        let holds = has_ended(rt, alloc, engine.bank(), outcome, &row.2);
-        ends = ends.saturating_add(1);
-        assert!(rt;
-            holds && witness.ceased == ends,
-            "{} steps, {:?} calls",
-            row.0,
-            row.1
-        );
+        expect_end(rt, alloc, engine, row);
     }
 }
 
@@ -114,9 +113,8 @@ fn expect_told<B: TermBank>(rt: &impl Abort, alloc: Global, engine: &mut Engine<
 fn hears_of_rules<B: TermBank>(rt: &impl Abort, engine: &mut Engine<B>) {
     let mut witness = NOTHING;
     let outcome = watch_first(rt, engine, LONG, None, &mut witness);
-    assert!(rt; matches!(outcome, Ok(Outcome::Limit)));
-    assert!(rt; witness.told == 4 && witness.ceased == 1);
-    assert!(rt; witness.goes_on);
+    let is_limit = matches!(outcome, Ok(Outcome::Limit));
+    assert!(rt; is_limit && witness.told == 4 && witness.ceased == 1 && witness.goes_on);
 }
 
 /// Stops unless so many rules matched, fired and failed as the rows say, and no others are there.
@@ -128,16 +126,6 @@ fn expect_counts(rt: &impl Abort, counts: &[RuleCount], rows: &[Count]) {
             "{row:?}"
         );
     }
-}
-
-/// The same where rules are counted and where they aren't.
-fn hears_of_counted_rules<B: TermBank>(rt: &impl Abort, alloc: Global, engine: &mut Engine<B>) {
-    hears_of_rules(rt, engine);
-    assert!(rt; engine.rule_counts().is_empty());
-    assert!(rt; engine.count_rules(alloc).is_ok());
-    hears_of_rules(rt, engine);
-    expect_counts(rt, engine.rule_counts(), &IN_TURN);
-    assert!(rt; engine.tally().steps == 2 * LONG);
 }
 
 /// Two rules took half of the steps each.
@@ -161,37 +149,10 @@ const OF_ALL: [Count; 4] = [(3, 1, 1), (1, 1, 0), (3, 3, 0), (1, 1, 0)];
 
 const OF_NONE: [Count; 4] = [(0, 0, 0); 4];
 
-/// Stops unless rules are counted as soon as that is asked for, and from nothing when it is asked
-/// for once more; steps are counted from the beginning.
-fn counts_rules<B: TermBank>(rt: &impl Abort, alloc: Global, engine: &mut Engine<B>) {
-    expect_rows(rt, alloc, engine, &SECOND);
-    assert!(rt; engine.rule_counts().is_empty());
-    assert!(rt; engine.count_rules(alloc).is_ok());
-    expect_counts(rt, engine.rule_counts(), &OF_NONE);
-    expect_rows(rt, alloc, engine, &FIRST);
-    expect_counts(rt, engine.rule_counts(), &OF_FIRST);
-    expect_rows(rt, alloc, engine, &SECOND);
-    expect_counts(rt, engine.rule_counts(), &OF_BOTH);
-    expect_rows(rt, alloc, engine, &BROKEN_OFF);
-    expect_counts(rt, engine.rule_counts(), &OF_ALL);
-    assert!(rt; engine.tally().steps == 10);
-    assert!(rt; engine.count_rules(alloc).is_ok());
-    expect_counts(rt, engine.rule_counts(), &OF_NONE);
-}
-
 /// Each `k` is called twice where nothing is remembered.
 const REPEATED: [Row; 1] = [(0, 9, End::Value(PAIR, 7))];
 
 const OF_REPEATED: [Count; 3] = [(2, 2, 0), (4, 4, 0), (1, 1, 0)];
-
-/// Stops unless each call that comes again is counted anew where nothing is remembered.
-fn counts_calls<B: TermBank>(rt: &impl Abort, alloc: Global, engine: &mut Engine<B>) {
-    assert!(rt; engine.count_rules(alloc).is_ok());
-    expect_rows(rt, alloc, engine, &REPEATED);
-    expect_counts(rt, engine.rule_counts(), &OF_REPEATED);
-    let tally = engine.tally();
-    assert!(rt; tally.steps == 7 && tally.remembered == 0 && tally.saved == 0);
-}
 
 /// How often rules matched.
 fn match_count(counts: &[RuleCount]) -> u64 {
@@ -204,69 +165,148 @@ fn match_count(counts: &[RuleCount]) -> u64 {
 
 const LONGEST: [Row; 1] = [(0, FAST_STEPS, End::Value(ZERO, FAST_STEPS))];
 
-/// Stops unless the steps of rules that matched and those that results stand for are all steps.
-fn counts_remembered<B: TermBank>(rt: &impl Abort, alloc: Global, engine: &mut Engine<B>) {
-    assert!(rt; engine.count_rules(alloc).is_ok());
-    expect_rows(rt, alloc, engine, &LONGEST);
-    let tally = engine.tally();
-    let matched = match_count(engine.rule_counts());
-    assert!(rt; tally.steps == FAST_STEPS);
-    assert!(rt; tally.remembered > 0 && tally.saved < FAST_STEPS);
-    assert!(rt; matched == FAST_STEPS - tally.saved);
+/// Whether the steps of rules that matched and those that results stand for are all steps.
+fn are_all_steps(tally: &Tally, counts: &[RuleCount]) -> bool {
+    tally.steps == FAST_STEPS
+        && tally.remembered > 0
+        && tally.saved < FAST_STEPS
+        && match_count(counts) == FAST_STEPS - tally.saved
 }
 
-/// Stops unless twenty terms take a cell for the empty list and three more for each: itself, the
-/// list of its argument, and the argument.
-fn counts_cells<B: TermBank>(rt: &impl Abort, engine: &mut Engine<B>) {
-    let none = engine.tally();
-    assert!(rt; none.steps == 0 && none.made == 0);
-    assert!(rt; none.most == 0 && none.reclaims == 0);
-    assert!(rt; count_values(rt, engine) == 20);
-    let tally = engine.tally();
-    assert!(rt; tally.steps == 0 && tally.made == 61);
-    assert!(rt; tally.most == 61 && tally.reclaims == 0);
-}
-
-/// Stops unless the cells are made, too, where they are given back, and fewer are held then.
-fn counts_reclaims<B: TermBank>(rt: &impl Abort, engine: &mut Engine<B>) {
-    assert!(rt; count_values(rt, engine) == 20);
-    let tally = engine.tally();
-    assert!(rt; tally.made >= 61 && tally.reclaims > 0);
-    assert!(rt; tally.most <= 30 && tally.most >= engine.bank().cells());
-}
-
-/// What is counted and told.
+/// What an engine did by now.
 #[derive(Drop)]
-pub enum Counts {
-    /// How evaluations of the sum end.
-    Ends(&'static [Told]),
-    /// Rules while they go on.
-    LongTerm,
-    Rules,
-    Calls,
+pub enum Done {
+    /// So many steps, none of them by a remembered result.
+    Steps(u64),
+    /// All steps of the longest evaluation, some by remembered results.
     Remembered,
-    Cells,
-    Reclaims,
+    /// No step; so many cells were made, and none is given back.
+    Cells(u32),
+    /// At least so many were made, and at most so many were there at once.
+    Reclaims(u32, u32),
 }
 
-/// Stops where something else is counted or told.
-pub fn ask<B: TermBank>(rt: &impl Abort, alloc: Global, engine: &mut Engine<B>, counts: &Counts) {
-    match counts {
-        Counts::Ends(rows) => expect_told(rt, alloc, engine, rows),
-        Counts::LongTerm => hears_of_counted_rules(rt, alloc, engine),
-        Counts::Rules => counts_rules(rt, alloc, engine),
-        Counts::Calls => counts_calls(rt, alloc, engine),
-        Counts::Remembered => counts_remembered(rt, alloc, engine),
-        Counts::Cells => counts_cells(rt, engine),
-        Counts::Reclaims => counts_reclaims(rt, engine),
+/// Whether an engine did that by now.
+fn has_done<B: TermBank>(engine: &Engine<B>, done: &Done) -> bool {
+    let tally = engine.tally();
+    match done {
+        Done::Steps(count) => tally.steps == *count && tally.remembered == 0 && tally.saved == 0,
+        Done::Remembered => are_all_steps(&tally, engine.rule_counts()),
+        Done::Cells(count) => {
+            tally.steps == 0
+                && tally.made == *count as u64
+                && tally.most == *count
+                && tally.reclaims == 0
+        }
+        Done::Reclaims(made, most) => {
+            tally.made >= *made as u64
+                && tally.reclaims > 0
+                && tally.most <= *most
+                && tally.most >= engine.bank().cells()
+        }
     }
 }
+
+/// What is done with an engine, or asked of it.
+#[derive(Drop)]
+pub enum Step {
+    /// How evaluations of the sum end.
+    Ends(&'static [Told]),
+    /// What a witness hears of a term without an end.
+    LongTerm,
+    /// How terms end.
+    Rows(&'static [Row]),
+    /// From here on rules are counted.
+    Count,
+    /// How often each rule was used; of no rule where that is not counted.
+    Counts(&'static [Count]),
+    /// How many terms are values without a step.
+    Values(u32),
+    /// What else was counted, and when that is.
+    Done(&'static str, Done),
+}
+
+/// Stops where a step of an engine comes to something else.
+fn take_step<B: TermBank>(rt: &impl Abort, alloc: Global, engine: &mut Engine<B>, step: &Step) {
+    match step {
+        Step::Ends(rows) => expect_told(rt, alloc, engine, rows),
+        Step::LongTerm => hears_of_rules(rt, engine),
+        Step::Rows(rows) => expect_rows(rt, alloc, engine, rows),
+        Step::Count => expect(rt, engine.count_rules(alloc).is_ok(), "memory"),
+        Step::Counts(rows) => expect_counts(rt, engine.rule_counts(), rows),
+        Step::Values(count) => expect(rt, count_values(rt, engine) == *count, "values"),
+        Step::Done(place, done) => expect(rt, has_done(engine, done), place),
+    }
+}
+
+/// The same of each step.
+pub fn ask<B: TermBank>(rt: &impl Abort, alloc: Global, engine: &mut Engine<B>, steps: &[Step]) {
+    for step in steps {
+        take_step(rt, alloc, engine, step);
+    }
+}
+
+/// A witness hears the same where rules are counted and where they aren't.
+const LONG_TERM: [Step; 6] = [
+    Step::LongTerm,
+    Step::Counts(&[]),
+    Step::Count,
+    Step::LongTerm,
+    Step::Counts(&IN_TURN),
+    Step::Done("behind two long terms", Done::Steps(2 * LONG)),
+];
+
+/// Rules are counted as soon as that is asked for, and from nothing when it is asked for once
+/// more; steps are counted from the beginning.
+const RULES: [Step; 13] = [
+    Step::Rows(&SECOND),
+    Step::Counts(&[]),
+    Step::Count,
+    Step::Counts(&OF_NONE),
+    Step::Rows(&FIRST),
+    Step::Counts(&OF_FIRST),
+    Step::Rows(&SECOND),
+    Step::Counts(&OF_BOTH),
+    Step::Rows(&BROKEN_OFF),
+    Step::Counts(&OF_ALL),
+    Step::Done("behind four terms", Done::Steps(10)),
+    Step::Count,
+    Step::Counts(&OF_NONE),
+];
+
+/// Each call that comes again is counted anew where nothing is remembered.
+const CALLS: [Step; 4] = [
+    Step::Count,
+    Step::Rows(&REPEATED),
+    Step::Counts(&OF_REPEATED),
+    Step::Done("behind calls", Done::Steps(7)),
+];
+
+const RESULTS: [Step; 3] = [
+    Step::Count,
+    Step::Rows(&LONGEST),
+    Step::Done("behind remembered calls", Done::Remembered),
+];
+
+/// Twenty terms take a cell for the empty list and three more for each: itself, the list of its
+/// argument, and the argument.
+const CELLS: [Step; 3] = [
+    Step::Done("before terms", Done::Cells(0)),
+    Step::Values(20),
+    Step::Done("behind twenty terms", Done::Cells(61)),
+];
+
+/// The cells are made, too, where they are given back, and fewer are held then.
+const RECLAIMS: [Step; 2] = [
+    Step::Values(20),
+    Step::Done("behind reclaims", Done::Reclaims(61, 30)),
+];
 
 const ENDS_TOLD: Case = Case {
     spec: ADD,
     options: OPTIONS,
     bank: Bank::Plain(100),
-    question: Question::Observed(Counts::Ends(&ENDS)),
+    question: Question::Observed(&[Step::Ends(&ENDS)]),
 };
 
 /// In a bank that is full of the term.
@@ -274,49 +314,49 @@ const ENDS_TOLD_WITHOUT_ROOM: Case = Case {
     spec: ADD,
     options: OPTIONS,
     bank: Bank::Plain(8),
-    question: Question::Observed(Counts::Ends(&ENDS_WITHOUT_ROOM)),
+    question: Question::Observed(&[Step::Ends(&ENDS_WITHOUT_ROOM)]),
 };
 
 const RULES_TOLD: Case = Case {
     spec: TURNS,
     options: OPTIONS,
     bank: Bank::Plain(100),
-    question: Question::Observed(Counts::LongTerm),
+    question: Question::Observed(&LONG_TERM),
 };
 
 const RULES_COUNTED: Case = Case {
     spec: COND,
     options: OPTIONS,
     bank: Bank::Plain(100),
-    question: Question::Observed(Counts::Rules),
+    question: Question::Observed(&RULES),
 };
 
 const CALLS_COUNTED: Case = Case {
     spec: HIT,
     options: OPTIONS,
     bank: Bank::Plain(100),
-    question: Question::Observed(Counts::Calls),
+    question: Question::Observed(&CALLS),
 };
 
 const RESULTS_COUNTED: Case = Case {
     spec: FAST,
     options: REMEMBERING,
     bank: Bank::Shared(10_000),
-    question: Question::Observed(Counts::Remembered),
+    question: Question::Observed(&RESULTS),
 };
 
 const CELLS_COUNTED: Case = Case {
     spec: TWENTY,
     options: OPTIONS,
     bank: Bank::Shared(100),
-    question: Question::Observed(Counts::Cells),
+    question: Question::Observed(&CELLS),
 };
 
 const RECLAIMS_COUNTED: Case = Case {
     spec: TWENTY,
     options: ANEW,
     bank: Bank::Shared(100),
-    question: Question::Observed(Counts::Reclaims),
+    question: Question::Observed(&RECLAIMS),
 };
 
 /// What is told, and what is counted.

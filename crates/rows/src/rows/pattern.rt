@@ -180,19 +180,11 @@ fn holds(rt: &impl Abort, alloc: Global, bank: &mut PlainBank, row: &Bound) -> b
 }
 
 /// Stops where the patterns of rows bind something else.
-fn expect_bound(rt: &impl Abort, alloc: Global, rows: &[Bound]) {
-    let mut bank = plain_bank(rt, alloc, 1000);
+fn expect_bound(rt: &impl Abort, alloc: Global, bank: &mut PlainBank, rows: &[Bound]) {
     for row in rows {
-        let is_bound = holds(rt, alloc, &mut bank, row);
+        let is_bound = holds(rt, alloc, bank, row);
         assert!(rt; is_bound, "{} {}", row.0, row.1);
     }
-}
-
-#[test]
-fn terms_are_bound(rt: HostRuntime) {
-    expect_bound(&rt, rt.alloc(), &IN_ORDER);
-    expect_bound(&rt, rt.alloc(), &OF_KINDS);
-    expect_bound(&rt, rt.alloc(), &UNMATCHED);
 }
 
 /// Why a term is no pattern.
@@ -205,12 +197,11 @@ fn refusal(
     pattern_of(rt, alloc, bank, text).err()
 }
 
-#[test]
-fn what_is_no_pattern(rt: HostRuntime) {
-    let mut bank = plain_bank(&rt, rt.alloc(), 1000);
+/// Stops where terms are patterns, or are none for another reason.
+fn expect_refused(rt: &impl Abort, alloc: Global, bank: &mut PlainBank) {
     for (text, wanted) in &REFUSED {
-        let found = refusal(&rt, rt.alloc(), &mut bank, text.as_bytes());
-        expect(&rt, found == *wanted, text);
+        let found = refusal(rt, alloc, bank, text.as_bytes());
+        expect(rt, found == *wanted, text);
     }
 }
 
@@ -219,12 +210,11 @@ fn placeholders(rt: &impl Abort, alloc: Global, bank: &mut PlainBank, text: &[u8
     pattern(rt, alloc, bank, text).placeholders()
 }
 
-#[test]
-fn placeholders_everywhere(rt: HostRuntime) {
-    let mut bank = plain_bank(&rt, rt.alloc(), 1000);
+/// Stops where patterns have more placeholders, or fewer.
+fn expect_placeholders(rt: &impl Abort, alloc: Global, bank: &mut PlainBank) {
     for (text, count) in &PLACEHOLDERS {
-        let found = placeholders(&rt, rt.alloc(), &mut bank, text.as_bytes());
-        expect(&rt, found == *count, text);
+        let found = placeholders(rt, alloc, bank, text.as_bytes());
+        expect(rt, found == *count, text);
     }
 }
 
@@ -282,16 +272,51 @@ fn makes(rt: &impl Abort, alloc: Global, bank: &mut PlainBank, row: &Made) -> bo
 }
 
 /// Stops where the patterns of rows make something else.
-fn expect_made(rt: &impl Abort, alloc: Global, rows: &[Made]) {
-    let mut bank = plain_bank(rt, alloc, 1000);
+fn expect_made(rt: &impl Abort, alloc: Global, bank: &mut PlainBank, rows: &[Made]) {
     for row in rows {
-        let is_made = makes(rt, alloc, &mut bank, row);
+        let is_made = makes(rt, alloc, bank, row);
         assert!(rt; is_made, "{} {:?}", row.0, row.1);
     }
 }
 
+/// What is asked of patterns in a bank.
+#[derive(Drop)]
+enum Question {
+    Bound(&'static [Bound]),
+    Refused,
+    Placeholders,
+    Made(&'static [Made]),
+}
+
+/// Stops where the patterns of a bank answer otherwise.
+fn ask_bank(rt: &impl Abort, alloc: Global, bank: &mut PlainBank, question: &Question) {
+    match question {
+        Question::Bound(rows) => expect_bound(rt, alloc, bank, rows),
+        Question::Refused => expect_refused(rt, alloc, bank),
+        Question::Placeholders => expect_placeholders(rt, alloc, bank),
+        Question::Made(rows) => expect_made(rt, alloc, bank, rows),
+    }
+}
+
+/// The same of a bank of no terms.
+fn ask(rt: &impl Abort, alloc: Global, question: &Question) {
+    ask_bank(rt, alloc, &mut plain_bank(rt, alloc, 1000), question);
+}
+
+/// What is asked, each in a bank of its own.
+const ASKED: [Question; 7] = [
+    Question::Bound(&IN_ORDER),
+    Question::Bound(&OF_KINDS),
+    Question::Bound(&UNMATCHED),
+    Question::Refused,
+    Question::Placeholders,
+    Question::Made(&MADE),
+    Question::Made(&UNMADE),
+];
+
 #[test]
-fn terms_are_made(rt: HostRuntime) {
-    expect_made(&rt, rt.alloc(), &MADE);
-    expect_made(&rt, rt.alloc(), &UNMADE);
+fn patterns_of_terms(rt: HostRuntime) {
+    for question in &ASKED {
+        ask(&rt, rt.alloc(), question);
+    }
 }

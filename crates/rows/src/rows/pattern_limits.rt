@@ -1,6 +1,6 @@
 //! Patterns in a full bank, and deep ones.
 
-use crate::rows::banks::{plain_bank, shared_bank, term_of};
+use crate::rows::banks::{plain_box, shared_box, term_of};
 use crate::rows::pattern::{answer, are_spelt, of_one, only, pattern};
 use crate::rows::texts::Nest;
 use rx_pattern::{MakeFault, Pattern, PatternFault};
@@ -25,8 +25,7 @@ fn keep(rt: &impl Abort, bank: &mut PlainBank, t: Term) {
 
 #[test]
 fn a_full_bank(rt: HostRuntime) {
-    let mut bank = plain_bank(&rt, rt.alloc(), 8);
-    fill(&rt, rt.alloc(), &mut bank);
+    fill(&rt, rt.alloc(), &mut *plain_box(&rt, rt.alloc(), 8));
 }
 
 /// Calls in a bank whose cells a term takes but for one.
@@ -39,7 +38,7 @@ fn fill(rt: &impl Abort, alloc: Global, bank: &mut PlainBank) {
     find_no_room(rt, alloc, bank, (&open, &single), t);
 }
 
-/// Calls that fail for want of cells, and what goes on after a reclaim.
+/// Calls that fail for want of cells.
 fn find_no_room(
     rt: &impl Abort,
     alloc: Global,
@@ -50,12 +49,28 @@ fn find_no_room(
     let nine = term_of(rt, alloc, bank, b"9");
     assert!(rt; bank.cells() == 8);
     let mut out = only(rt, alloc, nine);
-    assert!(rt; answer(rt, bank, open, t, &mut out) == Err(PatternFault::Full));
-    assert!(rt; out.is_empty());
-    assert!(rt; of_one(rt, bank, single, nine) == Err(MakeFault::Full));
+    expect_full(rt, bank, open, t, &mut out);
+    assert!(rt; matches!(of_one(rt, bank, single, nine), Err(MakeFault::Full)));
+    find_room(rt, bank, open, t, &mut out);
+}
+
+/// Stops unless the pattern finds no room for the term.
+fn expect_full(
+    rt: &impl Abort,
+    bank: &mut PlainBank,
+    open: &Pattern,
+    t: Term,
+    out: &mut Vec<Term>,
+) {
+    let found = answer(rt, bank, open, t, out);
+    assert!(rt; matches!(found, Err(PatternFault::Full)) && out.is_empty());
+}
+
+/// What goes on after a reclaim.
+fn find_room(rt: &impl Abort, bank: &mut PlainBank, open: &Pattern, t: Term, out: &mut Vec<Term>) {
     keep(rt, bank, t);
-    assert!(rt; answer(rt, bank, open, t, &mut out) == Ok(true));
-    assert!(rt; are_spelt(rt, alloc, bank, &out, &["[1,2]"]));
+    assert!(rt; matches!(answer(rt, bank, open, t, out), Ok(true)));
+    assert!(rt; are_spelt(rt, *out.allocator(), bank, out, &["[1,2]"]));
 }
 
 /// A list within a list, 200,000 times, around a placeholder.
@@ -81,19 +96,27 @@ const DEEP_SUBJECT: Nest = Nest {
 /// A bank that searches from the front would take minutes.
 #[test]
 fn deep_terms(rt: HostRuntime) {
-    let mut bank = shared_bank(&rt, rt.alloc(), 500_000);
-    match_deep(&rt, rt.alloc(), &mut bank);
+    match_deep(&rt, rt.alloc(), &mut *shared_box(&rt, rt.alloc(), 500_000));
 }
 
 /// The pattern that the text spells matches the subject, and not its own text.
 fn match_deep(rt: &impl Abort, alloc: Global, bank: &mut SharedBank) {
     let text = DEEP.text(rt, alloc);
     let p = pattern(rt, alloc, bank, &text);
+    match_both(rt, alloc, bank, &p, &text);
+}
+
+/// The pattern matches the subject, and not this text.
+fn match_both(rt: &impl Abort, alloc: Global, bank: &mut SharedBank, p: &Pattern, text: &[u8]) {
     let mut out = Vec::new(alloc);
-    match_subject(rt, alloc, bank, &p, &mut out);
-    let other = term_of(rt, alloc, bank, &text);
-    assert!(rt; answer(rt, bank, &p, other, &mut out) == Ok(false));
-    assert!(rt; out.is_empty());
+    match_subject(rt, alloc, bank, p, &mut out);
+    let other = term_of(rt, alloc, bank, text);
+    assert!(rt; matches!(answer(rt, bank, p, other, &mut out), Ok(false)) && out.is_empty());
+}
+
+/// The subject in this bank.
+fn subject(rt: &impl Abort, alloc: Global, bank: &mut SharedBank) -> Term {
+    term_of(rt, alloc, bank, &DEEP_SUBJECT.text(rt, alloc))
 }
 
 /// The pattern matches the subject, and makes it of the 1 that it finds there.
@@ -104,9 +127,15 @@ fn match_subject(
     p: &Pattern,
     out: &mut Vec<Term>,
 ) {
-    let t = term_of(rt, alloc, bank, &DEEP_SUBJECT.text(rt, alloc));
-    assert!(rt; answer(rt, bank, p, t, out) == Ok(true));
+    let t = subject(rt, alloc, bank);
+    assert!(rt; matches!(answer(rt, bank, p, t, out), Ok(true)));
     let one = term_of(rt, alloc, bank, b"1");
-    assert!(rt; out.as_slice() == [one].as_slice());
-    assert!(rt; of_one(rt, bank, p, one) == Ok(t));
+    assert!(rt; out.len() == 1 && out[0] == one);
+    expect_made(rt, bank, p, one, t);
+}
+
+/// The pattern makes the subject of the 1.
+fn expect_made(rt: &impl Abort, bank: &mut SharedBank, p: &Pattern, one: Term, t: Term) {
+    let made = of_one(rt, bank, p, one).expect(rt, "a term");
+    assert!(rt; made == t);
 }

@@ -69,19 +69,26 @@ fn are_there(registers: &[u32], count: usize) -> bool
         .all(|register| (*register as usize) < count)
 }
 
-/// Stops where the values of registers come to stand otherwise, by either function.
-fn expect_settled(rt: &impl Abort, alloc: Global, row: &Row, is_over: bool) {
-    let (registers, first, to, wanted) = *row;
-    let mut work = ten(rt, alloc);
+/// Brings the values of registers, among ten references, where they are wanted, by either function.
+fn settle_ten(rt: &impl Abort, work: &mut Vec<Term>, row: &Row, is_over: bool)
+    requires { length work.old.items ≡ 10 }
+{
+    let (registers, first, to, _) = *row;
     assert!(rt; first <= 10 && to <= 10);
     assert!(rt; are_there(registers, 10 - first));
     let done = if is_over {
-        settle_over(registers, first, to, &mut work)
+        settle_over(registers, first, to, work)
     } else {
-        settle(registers, first, to, &mut work)
+        settle(registers, first, to, work)
     };
     assert!(rt; done.is_ok());
-    expect_numbers(rt, &work, wanted);
+}
+
+/// Stops where the values of registers come to stand otherwise, by either function.
+fn expect_settled(rt: &impl Abort, alloc: Global, row: &Row, is_over: bool) {
+    let mut work = ten(rt, alloc);
+    settle_ten(rt, &mut work, row, is_over);
+    expect_numbers(rt, &work, row.3);
 }
 
 #[test]

@@ -146,10 +146,14 @@ fn lengths(spec: &Syntax) -> [usize; 6] {
     ]
 }
 
+/// The specification of a text, in a box, which is less to carry.
+fn spec_box(rt: &impl Abort, alloc: Global, spec: &[u8]) -> Box<Syntax> {
+    Box::new(alloc, spec_of(rt, alloc, spec)).expect(rt, "memory")
+}
+
 fn expect_addition(rt: &impl Abort, spec: &Syntax) {
     let name = spec.name();
-    assert!(rt; name.from == 9 && name.to == 12);
-    assert!(rt; lengths(spec) == [1, 2, 1, 1, 2, 1]);
+    assert!(rt; name.from == 9 && name.to == 12 && lengths(spec) == [1, 2, 1, 1, 2, 1]);
     for term in spec.terms() {
         assert!(rt; has_nodes(term, &NODES));
     }
@@ -157,7 +161,7 @@ fn expect_addition(rt: &impl Abort, spec: &Syntax) {
 
 #[test]
 fn addition(rt: HostRuntime) {
-    let spec = spec_of(&rt, rt.alloc(), ADDITION);
+    let spec = spec_box(&rt, rt.alloc(), ADDITION);
     expect_addition(&rt, &spec);
 }
 
@@ -197,15 +201,23 @@ fn read_text_owned(rt: &impl Abort, alloc: Global, text: &[u8]) -> Result<Syntax
 
 #[test]
 fn a_text_that_is_kept(rt: HostRuntime) {
+    assert!(rt;
+        matches!(
+            place(read_text_owned(&rt, rt.alloc(), &ADDITION[..184])),
+            Some(184)
+        )
+    );
     let spec = read_text_owned(&rt, rt.alloc(), ADDITION).expect(&rt, "a specification");
-    assert!(rt; spec.source() == ADDITION.as_slice());
-    assert!(rt; spec.rules().len() == 2);
-    assert!(rt; place(read_text_owned(&rt, rt.alloc(), &ADDITION[..184])) == Some(184));
+    expect_kept(&rt, &spec);
+}
+
+fn expect_kept(rt: &impl Abort, spec: &Syntax) {
+    assert!(rt; spec.source() == ADDITION.as_slice() && spec.rules().len() == 2);
 }
 
 #[test]
 fn the_least_one(rt: HostRuntime) {
-    let spec = spec_of(&rt, rt.alloc(), b"REC-SPEC E END-SPEC");
+    let spec = spec_box(&rt, rt.alloc(), b"REC-SPEC E END-SPEC");
     assert!(rt; spec.source().len() == 19);
     assert!(rt; spec.sorts().is_empty() && spec.terms().is_empty());
 }
@@ -233,7 +245,7 @@ fn expect_marks(rt: &impl Abort, spec: &Syntax) {
 #[test]
 fn a_condition(rt: HostRuntime) {
     let text = b"REC-SPEC E RULES f(X) -> z if g(X) -><- z and-if X ->/<- z END-SPEC";
-    let spec = spec_of(&rt, rt.alloc(), text);
+    let spec = spec_box(&rt, rt.alloc(), text);
     expect_marks(&rt, &spec);
 }
 
@@ -257,13 +269,8 @@ fn expect_deep(rt: &impl Abort, spec: &Syntax) {
 #[test]
 fn a_million_deep(rt: HostRuntime) {
     let text = DEEP.text(&rt, rt.alloc());
-    let spec = spec_of(&rt, rt.alloc(), &text);
+    let spec = spec_box(&rt, rt.alloc(), &text);
     expect_deep(&rt, &spec);
-}
-
-/// Whether a text is too long for a specification.
-fn is_long(answer: Result<Syntax, SyntaxFault>) -> bool {
-    matches!(answer, Err(SyntaxFault::Long))
 }
 
 /// A specification of this many bytes, most of them blanks.
@@ -274,10 +281,14 @@ fn blank(rt: &impl Abort, alloc: Global, length: usize) -> Vec<u8> {
     text
 }
 
+/// Why a specification of so many bytes isn't read.
+fn blank_fault(rt: &impl Abort, alloc: Global, length: usize) -> Option<SyntaxFault> {
+    read_spec(alloc, &blank(rt, alloc, length)).err()
+}
+
 #[test]
 fn long_texts(rt: HostRuntime) {
-    let longest = blank(&rt, rt.alloc(), 16_777_216);
-    assert!(rt; read_spec(rt.alloc(), &longest).is_ok());
-    let longer = blank(&rt, rt.alloc(), 16_777_217);
-    assert!(rt; is_long(read_spec(rt.alloc(), &longer)));
+    assert!(rt; blank_fault(&rt, rt.alloc(), 16_777_216).is_none());
+    let fault = blank_fault(&rt, rt.alloc(), 16_777_217);
+    assert!(rt; matches!(fault, Some(SyntaxFault::Long)));
 }

@@ -1,8 +1,7 @@
 use crate::rows::banks::{expect_text, plain_bank, shared_bank, term_of, text_of};
 use crate::rows::texts::{Nest, blanks, expect, push};
 use rx_plain::PlainBank;
-use rx_shared::SharedBank;
-use rx_term::TermBank;
+use rx_term::{Term, TermBank};
 use rx_text::TokenKind::*;
 use rx_text::{
     RefusedWrite, TextFault, TokenKind, WriteFault, expected_at_fault, put, read, write,
@@ -109,21 +108,35 @@ fn expect_no_room(rt: &impl Abort, alloc: Global, bank: &mut PlainBank) {
 
 /// A full bank answers that; a text with a fault is answered first.
 fn fill(rt: &impl Abort, alloc: Global, bank: &mut PlainBank) {
-    assert!(rt; read(alloc, b"[1,2,3]", bank) == Err(TextFault::Full));
-    assert!(rt; bank.cells() == bank.cap());
-    assert!(rt; read(alloc, b"[1,2,3", bank) == Err(TextFault::Grammar { at: 6 }));
+    assert!(rt;
+        read(alloc, b"[1,2,3]", bank) == Err(TextFault::Full)
+            && bank.cells() == bank.cap()
+            && read(alloc, b"[1,2,3", bank) == Err(TextFault::Grammar { at: 6 })
+    );
+}
+
+/// What comes of writing a term where so many bytes have room; all of the room is taken.
+fn fill_with(
+    rt: &impl Abort,
+    alloc: Global,
+    bank: &PlainBank,
+    t: Term,
+    left: usize,
+) -> Result<(), WriteFault> {
+    assert!(rt; bank.holds(t));
+    let mut out = Small { left };
+    let answer = write(alloc, bank, t, &mut out);
+    assert!(rt; out.left == 0);
+    answer
 }
 
 /// Stops unless a term of eight bytes has room in so many, and no fewer.
 fn expect_room(rt: &impl Abort, alloc: Global, bank: &mut PlainBank) {
     let t = term_of(rt, alloc, bank, b"f(a,[1])");
-    assert!(rt; bank.holds(t));
     for left in 0..8 {
-        let mut out = Small { left };
-        assert!(rt; write(alloc, bank, t, &mut out) == Err(WriteFault::Write));
-        assert!(rt; out.left == 0);
+        assert!(rt; fill_with(rt, alloc, bank, t, left) == Err(WriteFault::Write));
     }
-    assert!(rt; write(alloc, bank, t, &mut Small { left: 8 }).is_ok());
+    assert!(rt; fill_with(rt, alloc, bank, t, 8).is_ok());
 }
 
 /// As many blanks as a text may have bytes, and one byte more.
@@ -145,17 +158,21 @@ enum Question {
     Long,
 }
 
-/// Stops where a bank of no terms answers otherwise.
-fn ask(rt: &impl Abort, alloc: Global, cells: u32, question: &Question) {
-    let mut bank = plain_bank(rt, alloc, cells);
+/// Stops where a bank answers otherwise.
+fn ask_bank(rt: &impl Abort, alloc: Global, bank: &mut PlainBank, question: &Question) {
     match question {
-        Question::Places => expect_places(rt, alloc, &mut bank),
-        Question::Printed => expect_printed(rt, alloc, &mut bank),
-        Question::NoRoom => expect_no_room(rt, alloc, &mut bank),
-        Question::Full => fill(rt, alloc, &mut bank),
-        Question::Room => expect_room(rt, alloc, &mut bank),
-        Question::Long => expect_long(rt, alloc, &mut bank),
+        Question::Places => expect_places(rt, alloc, bank),
+        Question::Printed => expect_printed(rt, alloc, bank),
+        Question::NoRoom => expect_no_room(rt, alloc, bank),
+        Question::Full => fill(rt, alloc, bank),
+        Question::Room => expect_room(rt, alloc, bank),
+        Question::Long => expect_long(rt, alloc, bank),
     }
+}
+
+/// The same of a bank of no terms.
+fn ask(rt: &impl Abort, alloc: Global, cells: u32, question: &Question) {
+    ask_bank(rt, alloc, &mut plain_bank(rt, alloc, cells), question);
 }
 
 /// How many cells a bank has, and what it is asked.
@@ -206,16 +223,19 @@ const BRACKETS: Nest = Nest {
 };
 
 /// Stops where a text spells no term, or one with another text.
-fn expect_same(rt: &impl Abort, alloc: Global, bank: &mut SharedBank, text: &[u8]) {
-    let t = term_of(rt, alloc, bank, text);
-    expect_text(rt, alloc, bank, t, text);
+fn expect_same<B: TermBank + Drop>(rt: &impl Abort, alloc: Global, mut bank: B, text: &[u8]) {
+    let t = term_of(rt, alloc, &mut bank, text);
+    expect_text(rt, alloc, &bank, t, text);
+}
+
+/// The same in a bank of two million cells.
+fn expect_in_cells(rt: &impl Abort, alloc: Global, text: &[u8]) {
+    expect_same(rt, alloc, shared_bank(rt, alloc, 2_000_000), text);
 }
 
 #[test]
 fn two_million_levels(rt: HostRuntime) {
-    let bytes = BRACKETS.text(&rt, rt.alloc());
-    let mut bank = shared_bank(&rt, rt.alloc(), 2_000_000);
-    expect_same(&rt, rt.alloc(), &mut bank, &bytes);
+    expect_in_cells(&rt, rt.alloc(), &BRACKETS.text(&rt, rt.alloc()));
 }
 
 /// A writer with room for so many bytes.
@@ -240,8 +260,6 @@ impl Write for Small {
 #[test]
 fn a_text_beyond_the_room(rt: HostRuntime) {
     let mut out = Small { left: 3 };
-    assert!(rt; put(&mut out, b"abc").is_ok());
-    assert!(rt; out.left == 0);
-    assert!(rt; put(&mut out, b"d") == Err(RefusedWrite));
-    assert!(rt; put(&mut out, b"").is_ok());
+    assert!(rt; put(&mut out, b"abc").is_ok() && out.left == 0);
+    assert!(rt; put(&mut out, b"d") == Err(RefusedWrite) && put(&mut out, b"").is_ok());
 }

@@ -38,15 +38,18 @@ impl Nest<'_> {
     /// The whole text.
     pub fn text(&self, rt: &impl Abort, alloc: Global) -> Vec<u8> {
         let mut text = Vec::from_slice(alloc, self.before).expect(rt, "memory");
-        for _ in 0..self.depth {
-            assert!(rt; text.extend_from_slice(self.open).is_ok());
-        }
+        repeat(rt, &mut text, self.open, self.depth);
         push(rt, &mut text, self.inner);
-        for _ in 0..self.depth {
-            assert!(rt; text.push(self.close).is_ok());
-        }
+        repeat(rt, &mut text, &[self.close], self.depth);
         push(rt, &mut text, self.after);
         text
+    }
+}
+
+/// Adds a part so many times.
+fn repeat(rt: &impl Abort, text: &mut Vec<u8>, part: &[u8], count: u32) {
+    for _ in 0..count {
+        assert!(rt; text.extend_from_slice(part).is_ok());
     }
 }
 
@@ -73,4 +76,9 @@ pub fn spec_of(rt: &impl Abort, alloc: Global, spec: &[u8]) -> Syntax {
 /// The checked specification of a text.
 pub fn checked_spec(rt: &impl Abort, alloc: Global, spec: &[u8]) -> Checked {
     check(alloc, spec_of(rt, alloc, spec)).expect(rt, "a checked specification")
+}
+
+/// The same in a box, which is less to carry.
+pub fn checked_box(rt: &impl Abort, alloc: Global, spec: &[u8]) -> Box<Checked> {
+    Box::new(alloc, checked_spec(rt, alloc, spec)).expect(rt, "memory")
 }

@@ -1,13 +1,16 @@
 //! A trace, one firing after the other.
 
+ghost use Rattle.std.specs.Prelude.{◌≡◌, Some};
+ghost use Rattle.rx_term.specs.Store.{tree_at};
+ghost use Rattle.rx_term.specs.Tree.{Tree};
 ghost use Rattle.rec_engine.specs.Engine.{SameEngine};
-ghost use Rattle.rec_trace.specs.Tracing.{IsEvent, Stands};
+ghost use Rattle.rec_trace.specs.Tracing.{IsEvent, Rewrites, Stands};
 
 use crate::rows::banks::expect_text;
 use crate::rows::cases::{ANEW, Bank, Case, Question, expect_cases};
 use rec_engine::Engine;
 use rec_trace::{Event, Tracer, Turn};
-use rx_term::TermBank;
+use rx_term::{Term, TermBank};
 use std::alloc::Global;
 use std::process::Abort;
 
@@ -20,12 +23,44 @@ const SPEC: &[u8] = b"REC-SPEC Add SORTS N \
     EVAL add(s(z),s(z)) f(z) END-SPEC";
 
 /// A firing: its rule, its redex, what it becomes, and the steps that are left.
-struct Fired {
+pub struct Fired {
     rule: u32,
     redex: &'static [u8],
     contractum: &'static [u8],
     left: u64,
 }
+
+/// What a trace is asked for.
+#[derive(Drop)]
+pub enum Asked {
+    /// The whole term, which has this text.
+    Whole(&'static [u8]),
+    /// The next step, which is this firing.
+    Step(&'static Fired),
+    /// The next event, which is this firing, and then what its redex becomes.
+    Event(&'static Fired),
+    /// The next event, which is a firing; it is not written down what its redex becomes.
+    Unwritten,
+}
+
+/// What a trace is asked for at last.
+#[derive(Drop)]
+pub enum Last {
+    /// The next step, which is the value of this text.
+    Step(&'static [u8]),
+    /// The next event, which is that.
+    Event(&'static [u8]),
+    /// The next step, which is over the limit.
+    StepOverLimit,
+    /// The next event, which is that.
+    EventOverLimit,
+}
+
+/// The number of a term, the most steps of its trace, and what that is asked for in turn.
+pub type Trace = (u32, u64, &'static [Asked], Last);
+
+/// Traces of one engine, one behind the other.
+pub type Traced = &'static [Trace];
 
 /// The next step of a trace, which is a firing or the value.
 fn step_of<B: TermBank>(
@@ -41,6 +76,23 @@ fn step_of<B: TermBank>(
     let turn = tracer.next_step(alloc, engine).expect(rt, "a step");
     assert!(rt; !matches!(turn, Turn::Limit));
     turn
+}
+
+/// Stops where a redex has another text than that of this firing, or what it becomes.
+fn expect_texts<B: TermBank>(
+    rt: &impl Abort,
+    alloc: Global,
+    bank: &B,
+    (redex, contractum): (Term, Term),
+    wanted: &Fired,
+) {
+    expect_text(rt, alloc, bank, redex, wanted.redex);
+    expect_text(rt, alloc, bank, contractum, wanted.contractum);
+}
+
+/// Stops where another rule fired than in this firing, or another number of steps is left.
+fn expect_rule(rt: &impl Abort, tracer: &Tracer, rule: u32, wanted: &Fired) {
+    assert!(rt; rule == wanted.rule && tracer.left() == wanted.left);
 }
 
 /// Stops where the next step of a trace is another one than this firing.
@@ -63,9 +115,8 @@ fn expect_fired<B: TermBank>(
     else {
         panic!(rt; "a firing")
     };
-    assert!(rt; rule == wanted.rule && tracer.left() == wanted.left);
-    expect_text(rt, alloc, engine.bank(), redex, wanted.redex);
-    expect_text(rt, alloc, engine.bank(), contractum, wanted.contractum);
+    expect_rule(rt, tracer, rule, wanted);
+    expect_texts(rt, alloc, engine.bank(), (redex, contractum), wanted);
 }
 
 /// Stops where the next step of a trace is no value of this text.
@@ -85,12 +136,7 @@ fn expect_value<B: TermBank>(
 }
 
 /// The next event of a trace, which is a firing or the value.
-fn event_of<B: TermBank>(
-    rt: &impl Abort,
-    alloc: Global,
-    engine: &mut Engine<B>,
-    tracer: &mut Tracer,
-) -> Event
+fn event_of<B: TermBank>(rt: &impl Abort, engine: &mut Engine<B>, tracer: &mut Tracer) -> Event
     requires { Stands engine.old.spec (B.store engine.old.bank) tracer.old }
     ensures same { SameEngine engine.old engine.new }
     ensures stands { Stands engine.old.spec (B.store engine.new.bank) tracer.new }
@@ -100,6 +146,29 @@ fn event_of<B: TermBank>(
     let event = tracer.next_event(engine).expect(rt, "an event");
     assert!(rt; !matches!(event, Event::Limit));
     event
+}
+
+/// The rule and the redex of the next event, which is this firing.
+fn fired_event<B: TermBank>(
+    rt: &impl Abort,
+    alloc: Global,
+    engine: &mut Engine<B>,
+    tracer: &mut Tracer,
+    wanted: &Fired,
+) -> (u32, Term)
+    requires { Stands engine.old.spec (B.store engine.old.bank) tracer.old }
+    ensures same { SameEngine engine.old engine.new }
+    ensures stands { Stands engine.old.spec (B.store engine.new.bank) tracer.new }
+    ensures fired { (u : Tree) × (v : Tree)
+        × (tree_at (B.store engine.new.bank) result.1 ≡ Some u)
+        × Rewrites engine.old.spec result.0 u v }
+{
+    let Event::Fired { rule, redex } = event_of(rt, engine, tracer) else {
+        panic!(rt; "a firing")
+    };
+    expect_rule(rt, tracer, rule, wanted);
+    expect_text(rt, alloc, engine.bank(), redex, wanted.redex);
+    (rule, redex)
 }
 
 /// Stops where the next event of a trace is another one than this firing, or where its redex
@@ -115,16 +184,17 @@ fn expect_event<B: TermBank>(
     ensures same { SameEngine engine.old engine.new }
     ensures stands { Stands engine.old.spec (B.store engine.new.bank) tracer.new }
 {
-    let Event::Fired { rule, redex } = event_of(rt, alloc, engine, tracer) else {
-        panic!(rt; "a firing")
-    };
-    assert!(rt; rule == wanted.rule && tracer.left() == wanted.left);
-    expect_text(rt, alloc, engine.bank(), redex, wanted.redex);
+    let (rule, redex) = fired_event(rt, alloc, engine, tracer, wanted);
     let made = tracer
         .rewrite(alloc, engine, rule, redex)
         .expect(rt, "what it becomes");
-    expect_text(rt, alloc, engine.bank(), made.redex, wanted.redex);
-    expect_text(rt, alloc, engine.bank(), made.contractum, wanted.contractum);
+    expect_texts(
+        rt,
+        alloc,
+        engine.bank(),
+        (made.redex, made.contractum),
+        wanted,
+    );
 }
 
 /// Stops where the next event of a trace is no value of this text.
@@ -137,7 +207,7 @@ fn expect_last_event<B: TermBank>(
 )
     requires { Stands engine.old.spec (B.store engine.old.bank) tracer.old }
 {
-    let Event::Value { term } = event_of(rt, alloc, engine, tracer) else {
+    let Event::Value { term } = event_of(rt, engine, tracer) else {
         panic!(rt; "a value")
     };
     expect_text(rt, alloc, engine.bank(), term, wanted);
@@ -157,6 +227,105 @@ fn expect_whole_term<B: TermBank>(
 {
     let whole = tracer.whole(alloc, engine).expect(rt, "the whole term");
     expect_text(rt, alloc, engine.bank(), whole, wanted);
+}
+
+/// Stops where the next event of a trace is no firing.
+fn expect_unwritten<B: TermBank>(rt: &impl Abort, engine: &mut Engine<B>, tracer: &mut Tracer)
+    requires { Stands engine.old.spec (B.store engine.old.bank) tracer.old }
+    ensures same { SameEngine engine.old engine.new }
+    ensures stands { Stands engine.old.spec (B.store engine.new.bank) tracer.new }
+{
+    let event = event_of(rt, engine, tracer);
+    assert!(rt; matches!(event, Event::Fired { .. }));
+}
+
+/// Stops where a trace answers otherwise.
+fn expect_asked<B: TermBank>(
+    rt: &impl Abort,
+    alloc: Global,
+    engine: &mut Engine<B>,
+    tracer: &mut Tracer,
+    asked: &Asked,
+)
+    requires { Stands engine.old.spec (B.store engine.old.bank) tracer.old }
+    ensures same { SameEngine engine.old engine.new }
+    ensures stands { Stands engine.old.spec (B.store engine.new.bank) tracer.new }
+{
+    match asked {
+        Asked::Whole(text) => expect_whole_term(rt, alloc, engine, tracer, text),
+        Asked::Step(wanted) => expect_fired(rt, alloc, engine, tracer, wanted),
+        Asked::Event(wanted) => expect_event(rt, alloc, engine, tracer, wanted),
+        Asked::Unwritten => expect_unwritten(rt, engine, tracer),
+    }
+}
+
+/// Stops unless the next step of a trace is over the limit.
+fn expect_limit<B: TermBank>(
+    rt: &impl Abort,
+    alloc: Global,
+    engine: &mut Engine<B>,
+    tracer: &mut Tracer,
+)
+    requires { Stands engine.old.spec (B.store engine.old.bank) tracer.old }
+{
+    let turn = tracer.next_step(alloc, engine).expect(rt, "a step");
+    assert!(rt; matches!(turn, Turn::Limit));
+}
+
+/// The same of the next event.
+fn expect_limit_event<B: TermBank>(rt: &impl Abort, engine: &mut Engine<B>, tracer: &mut Tracer)
+    requires { Stands engine.old.spec (B.store engine.old.bank) tracer.old }
+{
+    let event = tracer.next_event(engine).expect(rt, "an event");
+    assert!(rt; matches!(event, Event::Limit));
+}
+
+/// Stops where a trace answers otherwise at last.
+fn expect_last<B: TermBank>(
+    rt: &impl Abort,
+    alloc: Global,
+    engine: &mut Engine<B>,
+    tracer: &mut Tracer,
+    last: &Last,
+)
+    requires { Stands engine.old.spec (B.store engine.old.bank) tracer.old }
+{
+    match last {
+        Last::Step(text) => expect_value(rt, alloc, engine, tracer, text),
+        Last::Event(text) => expect_last_event(rt, alloc, engine, tracer, text),
+        Last::StepOverLimit => expect_limit(rt, alloc, engine, tracer),
+        Last::EventOverLimit => expect_limit_event(rt, engine, tracer),
+    }
+}
+
+/// Stops where a trace that has begun answers otherwise.
+fn follow<B: TermBank>(
+    rt: &impl Abort,
+    alloc: Global,
+    engine: &mut Engine<B>,
+    tracer: &mut Tracer,
+    trace: &Trace,
+)
+    requires { Stands engine.old.spec (B.store engine.old.bank) tracer.old }
+{
+    for asked in trace.2 {
+        expect_asked(rt, alloc, engine, tracer, asked);
+    }
+    expect_last(rt, alloc, engine, tracer, &trace.3);
+}
+
+/// Begins a trace, and stops where it answers otherwise.
+fn begin<B: TermBank>(rt: &impl Abort, alloc: Global, engine: &mut Engine<B>, trace: &Trace) {
+    assert!(rt; engine.eval_terms() == 2 && trace.0 < 2);
+    let mut tracer = Tracer::of_eval(alloc, engine, trace.0, trace.1).expect(rt, "a trace");
+    follow(rt, alloc, engine, &mut tracer, trace);
+}
+
+/// Stops where another trace comes of an engine for the specification.
+pub fn ask<B: TermBank>(rt: &impl Abort, alloc: Global, engine: &mut Engine<B>, traced: &Traced) {
+    for trace in *traced {
+        begin(rt, alloc, engine, trace);
+    }
 }
 
 /// The first step of the sum.
@@ -183,99 +352,67 @@ const BEHIND: Fired = Fired {
     left: 3,
 };
 
-/// Stops where the trace of the sum has other steps.
-fn trace_sum<B: TermBank>(rt: &impl Abort, alloc: Global, engine: &mut Engine<B>) {
-    assert!(rt; engine.eval_terms() == 2);
-    let mut tracer = Tracer::of_eval(alloc, engine, 0, 5).expect(rt, "a trace");
-    expect_fired(rt, alloc, engine, &mut tracer, &FIRST);
-    expect_fired(rt, alloc, engine, &mut tracer, &SECOND);
-    expect_value(rt, alloc, engine, &mut tracer, b"s(s(z))");
-}
+/// The trace of the sum.
+const SUM: Trace = (
+    0,
+    5,
+    &[Asked::Step(&FIRST), Asked::Step(&SECOND)],
+    Last::Step(b"s(s(z))"),
+);
 
 /// The same beside the whole terms.
-fn trace_whole<B: TermBank>(rt: &impl Abort, alloc: Global, engine: &mut Engine<B>) {
-    assert!(rt; engine.eval_terms() == 2);
-    let mut tracer = Tracer::of_eval(alloc, engine, 0, 5).expect(rt, "a trace");
-    expect_whole_term(rt, alloc, engine, &mut tracer, b"add(s(z),s(z))");
-    expect_fired(rt, alloc, engine, &mut tracer, &FIRST);
-    expect_whole_term(rt, alloc, engine, &mut tracer, b"s(add(z,s(z)))");
-    expect_fired(rt, alloc, engine, &mut tracer, &SECOND);
-    expect_whole_term(rt, alloc, engine, &mut tracer, b"s(s(z))");
-    expect_value(rt, alloc, engine, &mut tracer, b"s(s(z))");
-}
+const WHOLE_TERMS: Trace = (
+    0,
+    5,
+    &[
+        Asked::Whole(b"add(s(z),s(z))"),
+        Asked::Step(&FIRST),
+        Asked::Whole(b"s(add(z,s(z)))"),
+        Asked::Step(&SECOND),
+        Asked::Whole(b"s(s(z))"),
+    ],
+    Last::Step(b"s(s(z))"),
+);
 
 /// The same of a term with a condition.
-fn trace_condition<B: TermBank>(rt: &impl Abort, alloc: Global, engine: &mut Engine<B>) {
-    assert!(rt; engine.eval_terms() == 2);
-    let mut tracer = Tracer::of_eval(alloc, engine, 1, 5).expect(rt, "a trace");
-    expect_fired(rt, alloc, engine, &mut tracer, &BEHIND);
-    expect_value(rt, alloc, engine, &mut tracer, b"s(z)");
-}
+const CONDITION: Trace = (1, 5, &[Asked::Step(&BEHIND)], Last::Step(b"s(z)"));
 
 /// The trace of the sum by events.
-fn trace_events<B: TermBank>(rt: &impl Abort, alloc: Global, engine: &mut Engine<B>) {
-    assert!(rt; engine.eval_terms() == 2);
-    let mut tracer = Tracer::of_eval(alloc, engine, 0, 5).expect(rt, "a trace");
-    expect_event(rt, alloc, engine, &mut tracer, &FIRST);
-    expect_event(rt, alloc, engine, &mut tracer, &SECOND);
-    expect_last_event(rt, alloc, engine, &mut tracer, b"s(s(z))");
-}
+const EVENTS: Trace = (
+    0,
+    5,
+    &[Asked::Event(&FIRST), Asked::Event(&SECOND)],
+    Last::Event(b"s(s(z))"),
+);
 
 /// The same where it is not written down what the first redex becomes.
-fn trace_unwritten<B: TermBank>(rt: &impl Abort, alloc: Global, engine: &mut Engine<B>) {
-    assert!(rt; engine.eval_terms() == 2);
-    let mut tracer = Tracer::of_eval(alloc, engine, 0, 5).expect(rt, "a trace");
-    let first = event_of(rt, alloc, engine, &mut tracer);
-    assert!(rt; matches!(first, Event::Fired { .. }));
-    expect_fired(rt, alloc, engine, &mut tracer, &SECOND);
-    expect_last_event(rt, alloc, engine, &mut tracer, b"s(s(z))");
-}
+const UNWRITTEN: Trace = (
+    0,
+    5,
+    &[Asked::Unwritten, Asked::Step(&SECOND)],
+    Last::Event(b"s(s(z))"),
+);
 
 /// The same of a term with a condition.
-fn trace_condition_events<B: TermBank>(rt: &impl Abort, alloc: Global, engine: &mut Engine<B>) {
-    assert!(rt; engine.eval_terms() == 2);
-    let mut tracer = Tracer::of_eval(alloc, engine, 1, 5).expect(rt, "a trace");
-    expect_event(rt, alloc, engine, &mut tracer, &BEHIND);
-    expect_last_event(rt, alloc, engine, &mut tracer, b"s(z)");
-}
+const CONDITION_EVENTS: Trace = (1, 5, &[Asked::Event(&BEHIND)], Last::Event(b"s(z)"));
 
-/// Stops unless a trace of no steps is at its limit.
-fn trace_nothing<B: TermBank>(rt: &impl Abort, alloc: Global, engine: &mut Engine<B>) {
-    assert!(rt; engine.eval_terms() == 2);
-    let mut tracer = Tracer::of_eval(alloc, engine, 0, 0).expect(rt, "a trace");
-    let turn = tracer.next_step(alloc, engine).expect(rt, "a step");
-    assert!(rt; matches!(turn, Turn::Limit));
-    let mut tracer = Tracer::of_eval(alloc, engine, 0, 0).expect(rt, "a trace");
-    let event = tracer.next_event(engine).expect(rt, "an event");
-    assert!(rt; matches!(event, Event::Limit));
-}
+/// A trace of no steps is at its limit.
+const NOTHING: Trace = (0, 0, &[], Last::StepOverLimit);
 
-/// What is traced.
-#[derive(Clone, Copy)]
-pub enum Traced {
-    Sum,
-    WholeTerms,
-    Condition,
-    Events,
-    Unwritten,
-    ConditionEvents,
-    Nothing,
-}
+/// The same by events.
+const NO_EVENT: Trace = (0, 0, &[], Last::EventOverLimit);
 
-/// Stops where another trace comes of an engine for the specification.
-pub fn ask<B: TermBank>(rt: &impl Abort, alloc: Global, engine: &mut Engine<B>, traced: &Traced) {
-    match traced {
-        Traced::Sum => trace_sum(rt, alloc, engine),
-        Traced::WholeTerms => trace_whole(rt, alloc, engine),
-        Traced::Condition => trace_condition(rt, alloc, engine),
-        Traced::Events => trace_events(rt, alloc, engine),
-        Traced::Unwritten => trace_unwritten(rt, alloc, engine),
-        Traced::ConditionEvents => trace_condition_events(rt, alloc, engine),
-        Traced::Nothing => trace_nothing(rt, alloc, engine),
-    }
-}
+const TRACES: [Traced; 7] = [
+    &[SUM],
+    &[WHOLE_TERMS],
+    &[CONDITION],
+    &[EVENTS],
+    &[UNWRITTEN],
+    &[CONDITION_EVENTS],
+    &[NOTHING, NO_EVENT],
+];
 
-/// The engine of a trace.
+/// The engine of some traces.
 fn case(traced: Traced) -> Case {
     Case {
         spec: SPEC,
@@ -284,16 +421,6 @@ fn case(traced: Traced) -> Case {
         question: Question::Trace(traced),
     }
 }
-
-const TRACES: [Traced; 7] = [
-    Traced::Sum,
-    Traced::WholeTerms,
-    Traced::Condition,
-    Traced::Events,
-    Traced::Unwritten,
-    Traced::ConditionEvents,
-    Traced::Nothing,
-];
 
 #[test]
 fn terms_are_traced(rt: HostRuntime) {

@@ -1,6 +1,6 @@
 //! The lines of a trace.
 
-use crate::rows::banks::{plain_bank, term_of};
+use crate::rows::banks::{plain_box, term_of};
 use crate::rows::texts::expect;
 use rec_trace::{Look, Spot, spot_of, write_firing, write_whole};
 use rx_plain::PlainBank;
@@ -44,23 +44,37 @@ fn spots(rt: HostRuntime) {
     }
 }
 
-/// The texts of a redex and what it becomes, a look, and the line.
-type Firing = ((&'static [u8], &'static [u8]), Look, &'static str);
+/// Whose line it is.
+#[derive(Drop)]
+enum Told {
+    /// A firing's, of the texts of a redex and what it becomes.
+    Firing((&'static [u8], &'static [u8])),
+    /// That of the whole term `s(add(z,z))`.
+    Whole,
+}
 
-const FIRINGS: [Firing; 4] = [
-    (ADDED, PLAIN, "7:10: add(s(z),z) -> s(add(z,z))\n"),
-    (ADDED, COUNTED, "7:10: add(s(z),z) -> s(add(z,z))\t3\n"),
-    (ADDED, CUT, "7:10: add(... -> s(ad...\n"),
-    (SHORT, CUT, "7:10: f(a,bc) -> b\n"),
+/// Whose line it is, a look, and the line.
+type Row = (Told, Look, &'static str);
+
+const FIRINGS: [Row; 4] = [
+    (
+        Told::Firing(ADDED),
+        PLAIN,
+        "7:10: add(s(z),z) -> s(add(z,z))\n",
+    ),
+    (
+        Told::Firing(ADDED),
+        COUNTED,
+        "7:10: add(s(z),z) -> s(add(z,z))\t3\n",
+    ),
+    (Told::Firing(ADDED), CUT, "7:10: add(... -> s(ad...\n"),
+    (Told::Firing(SHORT), CUT, "7:10: f(a,bc) -> b\n"),
 ];
 
-/// A look at `s(add(z,z))`, and the line.
-type Whole = (Look, &'static str);
-
-const WHOLE_TERMS: [Whole; 3] = [
-    (PLAIN, "12:1: s(add(z,z))\n"),
-    (COUNTED, "12:1: s(add(z,z))\t40\n"),
-    (CUT, "12:1: s(ad...\n"),
+const WHOLE_TERMS: [Row; 3] = [
+    (Told::Whole, PLAIN, "12:1: s(add(z,z))\n"),
+    (Told::Whole, COUNTED, "12:1: s(add(z,z))\t40\n"),
+    (Told::Whole, CUT, "12:1: s(ad...\n"),
 ];
 
 /// The line of a firing, in this bank.
@@ -98,20 +112,38 @@ fn line_of_whole(rt: &impl Abort, alloc: Global, bank: &mut PlainBank, look: Loo
     line
 }
 
-#[test]
-fn firings(rt: HostRuntime) {
-    let mut bank = plain_bank(&rt, rt.alloc(), 100);
-    for (texts, look, wanted) in &FIRINGS {
-        let line = line_of_firing(&rt, rt.alloc(), &mut bank, *texts, *look);
-        expect(&rt, line.as_slice() == wanted.as_bytes(), wanted);
+/// Stops where another line is written in this bank.
+fn expect_line(rt: &impl Abort, alloc: Global, bank: &mut PlainBank, row: &Row) {
+    let line = match &row.0 {
+        Told::Firing(texts) => line_of_firing(rt, alloc, bank, *texts, row.1),
+        Told::Whole => line_of_whole(rt, alloc, bank, row.1),
+    };
+    expect(rt, line.as_slice() == row.2.as_bytes(), row.2);
+}
+
+/// The same of each row.
+fn expect_lines(rt: &impl Abort, alloc: Global, bank: &mut PlainBank, rows: &[Row]) {
+    for row in rows {
+        expect_line(rt, alloc, bank, row);
     }
 }
 
 #[test]
+fn firings(rt: HostRuntime) {
+    expect_lines(
+        &rt,
+        rt.alloc(),
+        &mut *plain_box(&rt, rt.alloc(), 100),
+        &FIRINGS,
+    );
+}
+
+#[test]
 fn whole_terms(rt: HostRuntime) {
-    let mut bank = plain_bank(&rt, rt.alloc(), 100);
-    for (look, wanted) in &WHOLE_TERMS {
-        let line = line_of_whole(&rt, rt.alloc(), &mut bank, *look);
-        expect(&rt, line.as_slice() == wanted.as_bytes(), wanted);
-    }
+    expect_lines(
+        &rt,
+        rt.alloc(),
+        &mut *plain_box(&rt, rt.alloc(), 100),
+        &WHOLE_TERMS,
+    );
 }

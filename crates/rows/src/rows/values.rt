@@ -1,7 +1,9 @@
 //! The engine's calls beside evaluation: values that the caller makes, and values that are kept.
 
-ghost use Rattle.std.specs.Prelude.{◌≡◌, IsSome};
+ghost use Rattle.std.specs.Prelude.{◌≡◌, ◌<◌, IsSome, length};
 ghost use Rattle.rx_term.specs.Store.{tree_at};
+ghost use Rattle.rec_sorts.specs.Lookup.{symbols};
+ghost use Rattle.rec_sorts.specs.Numbering.{arity_of};
 
 use crate::rows::banks::expect_text;
 use crate::rows::cases::{Bank, Case, OPTIONS, Question, expect_cases};
@@ -20,6 +22,16 @@ pub const SUCCESSOR: u32 = 1;
 
 pub const ADDITION: u32 = 2;
 
+/// Stops unless there is a symbol of this number, with so many arguments.
+fn expect_symbol<B: TermBank>(rt: &impl Abort, engine: &Engine<B>, symbol: u32, count: u32)
+    ensures declared { symbol < length (symbols engine.now.spec) }
+    ensures counted { arity_of engine.now.spec symbol ≡ count }
+{
+    let checked = engine.checked();
+    assert!(rt; symbol < checked.symbols());
+    assert!(rt; checked.arity(symbol) == count);
+}
+
 /// The constant of a symbol; beside it a reference is kept.
 pub fn constant<B: TermBank>(
     rt: &impl Abort,
@@ -28,8 +40,7 @@ pub fn constant<B: TermBank>(
     symbol: u32,
 ) -> Term {
     assert!(rt; engine.bank().holds(kept));
-    assert!(rt; symbol < engine.checked().symbols());
-    assert!(rt; engine.checked().arity(symbol) == 0);
+    expect_symbol(rt, engine, symbol, 0);
     engine.apply(kept, symbol, &[]).expect(rt, "a constant")
 }
 
@@ -41,42 +52,60 @@ pub fn apply_to<B: TermBank>(
     value: Term,
 ) -> Term {
     assert!(rt; engine.bank().holds(value));
-    assert!(rt; symbol < engine.checked().symbols());
-    assert!(rt; engine.checked().arity(symbol) == 1);
+    expect_symbol(rt, engine, symbol, 1);
     engine
         .apply(value, symbol, &[value])
         .expect(rt, "an application")
 }
 
-/// The application of a symbol to two values, the first of which is kept.
-fn apply_to_both<B: TermBank>(
+/// Stops unless two values are there, and can be added.
+pub fn expect_addends<B: TermBank>(rt: &impl Abort, engine: &Engine<B>, both: (Term, Term))
+    ensures first { IsSome (tree_at (B.store engine.now.bank) both.0) }
+    ensures second { IsSome (tree_at (B.store engine.now.bank) both.1) }
+    ensures declared { 2 < length (symbols engine.now.spec) }
+    ensures counted { arity_of engine.now.spec 2 ≡ 2 }
+{
+    let bank = engine.bank();
+    assert!(rt; bank.holds(both.0) && bank.holds(both.1));
+    expect_symbol(rt, engine, ADDITION, 2);
+}
+
+/// The sum of two values, of which no step is done; the first one is kept.
+fn sum_of<B: TermBank>(
     rt: &impl Abort,
     engine: &mut Engine<B>,
-    symbol: u32,
     (first, second): (Term, Term),
 ) -> Term {
-    assert!(rt; engine.bank().holds(first) && engine.bank().holds(second));
-    assert!(rt; symbol < engine.checked().symbols());
-    assert!(rt; engine.checked().arity(symbol) == 2);
+    expect_addends(rt, engine, (first, second));
     engine
-        .apply(first, symbol, &[first, second])
+        .apply(first, ADDITION, &[first, second])
         .expect(rt, "an application")
 }
 
-/// What the call of a symbol on two values comes to within `n` steps; the first one is kept.
+/// What the sum of two values comes to within `n` steps; the first one is kept.
 fn call_on_both<B: TermBank>(
     rt: &impl Abort,
     engine: &mut Engine<B>,
-    symbol: u32,
     (first, second): (Term, Term),
     n: u64,
 ) -> Outcome {
-    assert!(rt; engine.bank().holds(first) && engine.bank().holds(second));
-    assert!(rt; symbol < engine.checked().symbols());
-    assert!(rt; engine.checked().arity(symbol) == 2);
+    expect_addends(rt, engine, (first, second));
     engine
-        .call(first, symbol, &[first, second], n)
+        .call(first, ADDITION, &[first, second], n)
         .expect(rt, "an outcome")
+}
+
+/// The values `s(z)` and `z`.
+pub fn one_and_zero<B: TermBank>(rt: &impl Abort, engine: &mut Engine<B>) -> (Term, Term) {
+    let empty = engine.nil().expect(rt, "the empty list");
+    let zero = constant(rt, engine, empty, ZERO);
+    (apply_to(rt, engine, SUCCESSOR, zero), zero)
+}
+
+/// Stops unless this is the value, in two steps.
+pub fn expect_in_two(rt: &impl Abort, outcome: Outcome, wanted: Term) {
+    let (value, steps) = value_of(outcome).expect(rt, "a value");
+    assert!(rt; value == wanted && steps == 2);
 }
 
 /// The list of one value.
@@ -93,7 +122,7 @@ fn makes_values<B: TermBank>(rt: &impl Abort, alloc: Global, engine: &mut Engine
     expect_text(rt, alloc, engine.bank(), empty, b"[]");
     let zero = constant(rt, engine, empty, ZERO);
     let one = apply_to(rt, engine, SUCCESSOR, zero);
-    let sum = apply_to_both(rt, engine, ADDITION, (one, zero));
+    let sum = sum_of(rt, engine, (one, zero));
     expect_text(rt, alloc, engine.bank(), sum, b"add(s(z),z)");
     let list = list_of(rt, engine, sum);
     expect_text(rt, alloc, engine.bank(), list, b"[add(s(z),z)]");
@@ -101,15 +130,10 @@ fn makes_values<B: TermBank>(rt: &impl Abort, alloc: Global, engine: &mut Engine
 
 /// The same of calls.
 fn calls_values<B: TermBank>(rt: &impl Abort, alloc: Global, engine: &mut Engine<B>) {
-    let empty = engine.nil().expect(rt, "the empty list");
-    let zero = constant(rt, engine, empty, ZERO);
-    let one = apply_to(rt, engine, SUCCESSOR, zero);
-    let both = (one, zero);
-    assert!(rt; value_of(call_on_both(rt, engine, ADDITION, both, 1)).is_none());
-    let outcome = call_on_both(rt, engine, ADDITION, both, 2);
-    let (value, steps) = value_of(outcome).expect(rt, "a value");
-    assert!(rt; value == one && steps == 2);
-    expect_text(rt, alloc, engine.bank(), one, b"s(z)");
+    let both = one_and_zero(rt, engine);
+    assert!(rt; value_of(call_on_both(rt, engine, both, 1)).is_none());
+    expect_in_two(rt, call_on_both(rt, engine, both, 2), both.0);
+    expect_text(rt, alloc, engine.bank(), both.0, b"s(z)");
 }
 
 /// The first rule that matches a term.
@@ -129,12 +153,10 @@ fn first_rule<B: TermBank>(
 
 /// Stops where another rule matches `add(s(z),z)` than the second one, or any matches `s(z)`.
 fn tells_rules<B: TermBank>(rt: &impl Abort, alloc: Global, engine: &mut Engine<B>) {
-    let empty = engine.nil().expect(rt, "the empty list");
-    let zero = constant(rt, engine, empty, ZERO);
-    let one = apply_to(rt, engine, SUCCESSOR, zero);
-    let sum = apply_to_both(rt, engine, ADDITION, (one, zero));
-    assert!(rt; first_rule(rt, alloc, engine, sum) == Some(1));
-    assert!(rt; first_rule(rt, alloc, engine, one) == None);
+    let both = one_and_zero(rt, engine);
+    let sum = sum_of(rt, engine, both);
+    assert!(rt; matches!(first_rule(rt, alloc, engine, sum), Some(1)));
+    assert!(rt; first_rule(rt, alloc, engine, both.0).is_none());
 }
 
 /// Whether there is no room for the term of a number.
@@ -145,12 +167,20 @@ fn lacks_room<B: TermBank>(rt: &impl Abort, engine: &mut Engine<B>, i: u32) -> b
     is_room(engine.eval_term(i).err())
 }
 
-/// Stops unless the value of the first term keeps its four cells while it is protected, so that
-/// there is no room for the three more of the second term, and gives them up afterwards.
-fn keeps_protected<B: TermBank>(rt: &impl Abort, alloc: Global, engine: &mut Engine<B>) {
+/// The value of the first term, which is a root.
+fn protected_value<B: TermBank>(rt: &impl Abort, engine: &mut Engine<B>) -> Term
+    ensures { 0 < (B.store engine.new.bank).roots result.0 }
+{
     let (value, _) = value_of(outcome_of(rt, engine, 0, 0)).expect(rt, "a value");
     assert!(rt; engine.bank().holds(value));
     engine.protect(value).expect(rt, "a root");
+    value
+}
+
+/// Stops unless the value of the first term keeps its four cells while it is protected, so that
+/// there is no room for the three more of the second term, and gives them up afterwards.
+fn keeps_protected<B: TermBank>(rt: &impl Abort, alloc: Global, engine: &mut Engine<B>) {
+    let value = protected_value(rt, engine);
     assert!(rt; lacks_room(rt, engine, 1));
     expect_text(rt, alloc, engine.bank(), value, b"h(c1)");
     engine.unprotect(value);
