@@ -63,8 +63,8 @@ impl<'a> Evidence<'a> {
         }
     }
 
-    /// The file that is read first, or the standard input where it stands there; its text is called
-    /// so.
+    /// The file that is read first, or the standard input in its place; `source` says which text it
+    /// holds.
     pub fn open_first<'i, H: Files, R: Read>(
         &mut self,
         rt: &H,
@@ -142,7 +142,7 @@ impl<'a> Evidence<'a> {
         text
     }
 
-    /// Keeps the text that was read first, which is called so.
+    /// Keeps the text that was read first; `source` says which it is.
     pub fn keep_first<R: Read>(&mut self, read: Recorded<'_, R>, source: Source) {
         let name = self.name_of(source);
         self.first = self.note_read(read.finish(), name);
