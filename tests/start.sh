@@ -1,6 +1,6 @@
 #!/bin/sh
-# Tries the script ./recw on a small tree with a stand-in for rt, so that nothing is proved: what it
-# says, when it builds, and how it ends. Takes some seconds.
+# Tries the script ./recw on a small tree with stand-ins for rt and the prover beside it, so that
+# nothing is proved: what it says, when it builds, and how it ends. Takes some seconds.
 set -eu
 
 top=$(dirname -- "$(dirname -- "$(readlink -f -- "$0")")")
@@ -9,8 +9,8 @@ trap 'rm -rf -- "$room"' EXIT
 chmod 755 "$room"
 failures=0
 
-# The stand-in counts its runs in the file `runs`, waits as long as the file `slow` says, or for a
-# crate `slow.CRATE`, and ends as the file `status` says.
+# The stand-ins write what they are run for to the file `runs`, wait as long as the file `slow` says,
+# or for a crate `slow.CRATE`, and end as the file `status` says.
 make_tree() {
     tree=$room/$1
     mkdir -p "$tree/bin" "$tree/crates/low/src" "$tree/crates/recw/src" "$tree/crates/other/src"
@@ -24,26 +24,41 @@ END
     echo code >"$tree/crates/low/src/lib.rt"
     echo code >"$tree/crates/recw/src/main.rt"
     echo code >"$tree/crates/other/src/lib.rt"
-    cat >"$tree/bin/rt" <<END
+    echo "this kit" >"$tree/version"
+    cat >"$tree/bin/rattle" <<END
 #!/bin/sh
-echo "\$(basename "\$PWD") \$*" >>'$tree/runs'
-[ "\$1" = try ] || echo "rt at work"
+made= jobs= before=
+for word; do
+    case \$before in
+    -o) made=\$word ;;
+    --jobs) jobs=\$word ;;
+    esac
+    before=\$word
+done
+echo "\$(basename "\$PWD") \$1 --jobs \$jobs" >>'$tree/runs'
+echo "prover at work"
 for slow in '$tree/slow' '$tree'/slow."\$(basename "\$PWD")"; do
     [ ! -e "\$slow" ] || sleep "\$(cat "\$slow")"
 done
 [ ! -e '$tree/status' ] || exit "\$(cat '$tree/status')"
-case \$1 in
-lib) mkdir -p out/rlib && : >out/rlib/stamp ;;
-try)
-    echo "words: \$*"
-    cat
-    printf 'complaint\nchecked: ended status=3\nrun=ended status=3 runners=1 proved=no\n' >&2
-    exit 3
-    ;;
-run) printf '#!/bin/sh\necho "words: \$*"\ncat\nexit 3\n' >out/recw && chmod 755 out/recw ;;
-esac
+: >"\$made"
 END
-    chmod 755 "$tree/bin/rt"
+    cat >"$tree/bin/rattle-link" <<END
+#!/bin/sh
+printf '#!/bin/sh\necho "words: \$*"\ncat\nexit 3\n' >'$tree/crates/recw/out/recw'
+chmod 755 '$tree/crates/recw/out/recw'
+END
+    cat >"$tree/bin/rt" <<END
+#!/bin/sh
+[ "\$1" != version ] || exec cat '$tree/version'
+echo "\$*" >>'$tree/runs'
+[ ! -e '$tree/status' ] || exit "\$(cat '$tree/status')"
+echo "words: \$*"
+cat
+printf 'complaint\nchecked: ended status=3\nrun=ended status=3 runners=1 proved=no\n' >&2
+exit 3
+END
+    chmod 755 "$tree"/bin/*
 }
 
 # Runs ./recw of the tree with the words, and leaves `status`, and its two outputs in files.
@@ -79,8 +94,8 @@ without_times() {
     sed -E 's/(about [1-9][0-9]* minutes|about a minute|less than a minute)/about N minutes/' "$1"
 }
 
-whole="low lib --jobs N
-recw run --jobs N -- --help"
+whole="low build --jobs N
+recw build --jobs N"
 
 make_tree 'first one'
 start eval 'a  b'
@@ -89,12 +104,12 @@ log=$tree/crates/recw/out/build.log
 same 'first start: lines' "recw: the program is proved and built first, in about N minutes; the log is $log
 recw: proving low (1 of 2), about N minutes left
 recw: proving recw (2 of 2), about N minutes left" "$(without_times "$room/err")"
-same 'first start: runs of rt' "$whole" "$(runs)"
+same 'first start: runs of the prover' "$whole" "$(runs)"
 
 start
 program_ran 'second start' ''
 same 'second start: lines' '' "$(cat "$room/err")"
-same 'second start: runs of rt' '' "$(runs)"
+same 'second start: runs of the prover' '' "$(runs)"
 
 ln -s "$tree/recw" "$room/link"
 start_as "$room/link" x
@@ -114,7 +129,7 @@ same 'a crate that is not needed was edited' '' "$(runs)"
 echo edited >"$tree/crates/low/src/lib.rt"
 start
 program_ran 'a source was edited' ''
-same 'a source was edited: runs of rt' "$whole" "$(runs)"
+same 'a source was edited: runs of the prover' "$whole" "$(runs)"
 same 'a source was edited: first line' \
     "recw: the program is proved and built first, in about N minutes; the log is $log" \
     "$(without_times "$room/err" | head -n 1)"
@@ -125,13 +140,13 @@ same 'a source was removed' "$whole" "$(runs)"
 
 echo 1 >"$tree/status"
 start
-program_ran 'rt is not asked' ''
+program_ran 'the prover is not asked' ''
 sleep 0.02
 echo edited >"$tree/crates/recw/src/main.rt"
 start
 same 'not proved: status' 70 "$status"
 same 'not proved: output' '' "$(cat "$room/out")"
-same 'not proved: last lines' "rt at work
+same 'not proved: last lines' "prover at work
 recw: recw was not proved; the whole log is $log" "$(tail -n 2 "$room/err")"
 start
 same 'not proved, again' 70 "$status"
@@ -153,9 +168,9 @@ head -c 1000 /dev/zero >"$tree/crates/low/src/lib.rt"
 start
 program_ran 'a crate beside the main line' ''
 same 'a crate beside the main line: lines' 2 "$(grep -c proving "$room/err")"
-[ "$(nproc)" -eq 1 ] || same 'a crate beside the main line: runs of rt' "$whole
-side lib --jobs N" "$(runs | sort -u)"
-same 'a crate beside the main line: no copy is left' no "$([ -e "$tree/crates/recw/out/build.copies" ] && echo yes || echo no)"
+[ "$(nproc)" -eq 1 ] || same 'a crate beside the main line: runs of the prover' "$whole
+side build --jobs N" "$(runs | sort -u)"
+same 'a crate beside the main line: no folder is left' no "$([ -e "$tree/crates/recw/out/build.begun" ] && echo yes || echo no)"
 
 # The main line has two jobs, or, where nothing else is left, all processors; each crate beside it
 # has one.
@@ -180,12 +195,12 @@ echo 1 >"$tree/slow.low"
 echo 4 >"$tree/slow.long"
 start
 program_ran 'places' ''
-same 'places: the main line' "low lib --jobs 2
-middle lib --jobs 2
-late lib --jobs 2
-recw run --jobs 3 -- --help" "$(grep -Ev '^(long|quick) ' "$tree/runs")"
-same 'places: beside it' "long lib --jobs 1
-quick lib --jobs 1" "$(grep -E '^(long|quick) ' "$tree/runs" | sort)"
+same 'places: the main line' "low build --jobs 2
+middle build --jobs 2
+late build --jobs 2
+recw build --jobs 3" "$(grep -Ev '^(long|quick) ' "$tree/runs")"
+same 'places: beside it' "long build --jobs 1
+quick build --jobs 1" "$(grep -E '^(long|quick) ' "$tree/runs" | sort)"
 rm -f "$tree/runs"
 
 # What somebody beside the main line fails to prove is told of.
@@ -196,12 +211,13 @@ sed -i 's/^recw.*/recw: low side/' "$tree/crates.txt"
 echo 'side:' >>"$tree/crates.txt"
 head -c 1000 /dev/zero >"$tree/crates/low/src/lib.rt"
 echo 1 >"$tree/slow.low"
-sed -i '/^case/i case $PWD in */side) exit 1 ;; esac' "$tree/bin/rt"
+# shellcheck disable=SC2016
+sed -i '/^: >/i case $PWD in */side) exit 1 ;; esac' "$tree/bin/rattle"
 start
 same 'failing: status' 70 "$status"
 same 'failing: last line' "recw: side was not proved; the whole log is $tree/crates/recw/out/build.log" \
     "$(tail -n 1 "$room/err")"
-same 'failing: low is kept' "$tree/crates/low/out/rlib/stamp" "$(ls "$tree/crates/low/out/rlib/stamp")"
+same 'failing: low is kept' "$tree/crates/low/out/start/proved" "$(ls "$tree/crates/low/out/start/proved")"
 
 make_tree unproved
 mkdir "$room/texts"
@@ -228,7 +244,27 @@ wait "$!" || :
 program_ran 'two at once' two
 same 'two at once: the other' "words: one" "$(grep words "$room/one")"
 same 'two at once: lines' 'recw: another start is building the program, and this one waits for it' "$(cat "$room/err")"
-same 'two at once: runs of rt' "$whole" "$(runs)"
+same 'two at once: runs of the prover' "$whole" "$(runs)"
+
+make_tree 'kits'
+start
+program_ran 'this kit' ''
+runs >/dev/null
+sleep 0.02
+echo edited >"$tree/crates/recw/src/main.rt"
+echo "another kit" >"$tree/version"
+start
+program_ran 'another kit' ''
+same 'another kit: runs of the prover' "$whole" "$(runs)"
+
+make_tree 'no locks'
+printf '#!/bin/sh\nexit 71\n' >"$tree/bin/flock"
+chmod 755 "$tree/bin/flock"
+start
+program_ran 'no locks' ''
+same 'no locks: line' "recw: cannot lock $tree/crates/recw/out/build.lock: let no other start build beside this one" \
+    "$(head -n 1 "$room/err")"
+same 'no locks: runs of the prover' "$whole" "$(runs)"
 
 for signal in INT TERM HUP KILL; do
     make_tree "$signal"
@@ -256,7 +292,7 @@ touch "$tree/crates/recw/out/build.unfinished"
 runs >/dev/null
 start
 program_ran 'a build that broke off' ''
-same 'a build that broke off: runs of rt' 'recw run --jobs N -- --help' "$(runs)"
+same 'a build that broke off: runs of the prover' 'recw build --jobs N' "$(runs)"
 
 make_tree bare
 status=0
