@@ -1,7 +1,9 @@
 # Completions of recw for bash.
 # shellcheck shell=bash
 
-# Each command with the kinds of its words: a file, files, a command, or a text that bash cannot tell.
+# Of each command the kinds of its words: a file, files, a command, or a text that bash cannot tell; and its options,
+# with the names of their values, or these. Written by `tests/options.py --write`.
+# options begin
 _recw_commands=(
     'eval file file'
     'serve file file'
@@ -11,45 +13,28 @@ _recw_commands=(
     'match text file'
     'make text text'
     'check files'
+    'uses file'
+    'join files'
     'help command'
 )
-
-# Each option of eval, with the name of its value where it takes one. All but the first and the last are serve's too.
-_recw_eval_options=(
-    '--term TERM'
-    '--steps N'
-    '--cells C'
-    '--memo M'
-    '--reclaim K'
-    '--depth D'
-    '--count'
-    '--limit-annotations'
-    '--limit-status'
-    '--stuck'
-    '--profile'
-    '--progress'
+declare -A _recw_options=(
+    [eval]='-e=TERM --term=TERM --join=FILE --steps=N --cells=C --memo=M --reclaim=K --depth=D --bytes=B --count --limit-annotations --limit-status --stuck --profile --progress --explain'
+    [serve]='--steps=N --cells=C --memo=M --reclaim=K --depth=D --bytes=B --count --explain'
+    [trace]='--steps=N --cells=C --count --whole --width=W --first=N --last=N --rule=LINE:COL --symbol=NAME --explain'
+    [aterm]='--explain --indent=N'
+    [share]='--explain --dot --nodes=N'
+    [match]='--test --explain'
+    [make]='--explain'
+    [check]='--strict --join=FILE --format=gnu|json --explain'
+    [uses]='--at=LINE:COL'
+    [join]=''
 )
+_recw_topics=(refusals)
+# options end
 
-# Each option of trace in the same way, and each of the others.
-_recw_trace_options=(
-    '--steps N'
-    '--cells C'
-    '--count'
-    '--whole'
-    '--width W'
-    '--first N'
-    '--last N'
-    '--rule LINE:COL'
-    '--symbol NAME'
-)
-_recw_other_options=('-e TERM' '--indent N' '--dot' '--nodes N')
-
+# Whether a word is an option of a command that takes a value.
 _recw_takes_value() {
-    local option
-    for option in "${_recw_eval_options[@]}" "${_recw_trace_options[@]}" "${_recw_other_options[@]}"; do
-        [[ $option != *' '* || ${option% *} != "$1" ]] || return 0
-    done
-    return 1
+    [[ " ${_recw_options[${1:-none}]-} " == *" $2="* ]]
 }
 
 # Prints the kind of the word that is completed.
@@ -59,7 +44,7 @@ _recw_kind() {
         [[ ${entry%% *} != "$1" ]] || read -ra kinds <<<"$entry"
     done
     for ((index = 2; index < COMP_CWORD; index++)); do
-        if _recw_takes_value "${COMP_WORDS[index]}"; then
+        if _recw_takes_value "$1" "${COMP_WORDS[index]}"; then
             [[ ${COMP_WORDS[index + 1]} != '=' ]] || ((index += 1))
             ((index += 1))
             # the shell takes a colon as a word of its own
@@ -68,31 +53,37 @@ _recw_kind() {
             kinds=("${kinds[@]:1}")
         fi
     done
-    if ((index > COMP_CWORD)); then
+    if ((index > COMP_CWORD)) && [[ ${COMP_WORDS[COMP_CWORD - 1]} == --join ]]; then
+        echo file
+    elif ((index > COMP_CWORD)); then
         echo value
-    elif [[ $1 == check ]]; then
+    elif [[ ${kinds[1]-} == files || $1 == check || $1 == join ]]; then
         echo file
     else
         echo "${kinds[1]-none}"
     fi
 }
 
+# Prints the values of the option before the word that is completed, if they have names.
+_recw_values() {
+    local option before=${COMP_WORDS[COMP_CWORD - 1]}
+    if [[ $before == '=' ]]; then before=${COMP_WORDS[COMP_CWORD - 2]}; fi
+    for option in ${_recw_options[${1:-none}]-}; do
+        if [[ $option == "$before="*'|'* ]]; then option=${option#*=} && echo "${option//|/ }"; fi
+    done
+}
+
 _recw() {
-    local word=${COMP_WORDS[COMP_CWORD]} command=${COMP_WORDS[1]} kind=command choices=(--help)
+    local word=${COMP_WORDS[COMP_CWORD]} command=${COMP_WORDS[1]} kind=command choices=(--help) option
     local commands=("${_recw_commands[@]%% *}")
     if ((COMP_CWORD > 1)); then kind=$(_recw_kind "$command"); fi
-    if ((COMP_CWORD > 1)) && [[ $command != help && $command != check ]]; then choices+=(--explain); fi
-    if ((COMP_CWORD > 1)) && [[ $command == eval ]]; then choices+=("${_recw_eval_options[@]%% *}"); fi
-    if ((COMP_CWORD > 1)) && [[ $command == serve ]]; then choices+=(--steps --cells --memo --reclaim --depth --count); fi
-    if ((COMP_CWORD > 1)) && [[ $command == trace ]]; then choices+=("${_recw_trace_options[@]%% *}"); fi
-    if ((COMP_CWORD > 1)) && [[ $command == share ]]; then choices+=(--dot --nodes); fi
-    if ((COMP_CWORD > 1)) && [[ $command == aterm ]]; then choices+=(--indent); fi
-    if ((COMP_CWORD > 1)) && [[ $command == match ]]; then choices+=(--test); fi
-    if ((COMP_CWORD > 1)) && [[ $command == check ]]; then choices+=(--strict); fi
+    for option in ${_recw_options[${command:-none}]-}; do choices+=("${option%%=*}"); done
     if ((COMP_CWORD == 1)); then choices+=(--version); fi
-    if ((COMP_CWORD == 2)) && [[ $command == help ]]; then commands+=(refusals); fi
+    if ((COMP_CWORD == 2)) && [[ $command == help ]]; then commands+=("${_recw_topics[@]}"); fi
     COMPREPLY=()
-    if [[ $kind != value && $word == -* ]]; then
+    if [[ $kind == value ]]; then
+        mapfile -t COMPREPLY < <(compgen -W "$(_recw_values "$command")" -- "${word#=}")
+    elif [[ $word == -* ]]; then
         mapfile -t COMPREPLY < <(compgen -W "${choices[*]}" -- "$word")
     elif [[ $kind == command ]]; then
         mapfile -t COMPREPLY < <(compgen -W "${commands[*]}" -- "$word")

@@ -3,11 +3,12 @@
 
 Each line of the input is a request of `recw serve`. The lines are a bag of several partitions, and each partition goes
 through one process of its own, on whichever worker has time; one that is lost with its worker is asked again. The
-answers are written in the order of the requests. With the name of a scheduler in DASK_SCHEDULER the workers of that
-cluster are used, where RECW and SPEC have to be.
+answers are written in the order of the requests. A RECW without a slash is looked up in PATH, as a shell does. With the
+name of a scheduler in DASK_SCHEDULER the workers of that cluster are used, where RECW and SPEC have to be.
 """
 
 import os
+import shutil
 import subprocess
 import sys
 
@@ -28,8 +29,16 @@ def ask(client, lines, recw, spec, count):
     return bag.map_partitions(answers, recw, spec).compute(scheduler=client)
 
 
+def program(name):
+    """The path of a program. Workers may run in other folders."""
+    found = name if "/" in name else shutil.which(name)
+    return os.path.abspath(found) if found else sys.exit(f"cluster.py: {name}: command not found")
+
+
 def main():
-    recw, spec, count = os.path.realpath(sys.argv[1]), os.path.realpath(sys.argv[2]), int(sys.argv[3])
+    if len(sys.argv) != 4:
+        sys.exit(__doc__)
+    recw, spec, count = program(sys.argv[1]), os.path.abspath(sys.argv[2]), int(sys.argv[3])
     sys.stdin.reconfigure(encoding="latin-1")
     sys.stdout.reconfigure(encoding="latin-1")
     lines = [f"{line}\n" for line in sys.stdin.read().split("\n")]

@@ -1,8 +1,8 @@
 #!/usr/bin/env -S python3 -B
-"""Compares the list of functions with many arguments, `self` among them, in docs/DECISIONS.md with the sources.
+"""Compares the list of functions with many arguments, `self` among them, in tests/arguments.txt with the sources.
 
-A function of more than five has to stand in that list, where its reason is, by crate and name; and what stands there
-has to be such a function. With --list they are printed, with their files and numbers of arguments.
+A function of more than five arguments has to be in that list, by crate and name, below a reason; and each function of
+the list has to be such a one. With --list they are printed, with their files and numbers of arguments.
 """
 
 import collections
@@ -13,11 +13,11 @@ import sys
 from common import TOP, done, same, text_of
 
 MOST = 5
-HEADING = "## Functions of more than five arguments"
+LIST = "tests/arguments.txt"
 COMMENT = re.compile(r"//[^\n]*")
 FUNCTION = re.compile(r"\bfn (\w+)\s*")
-# a crate is followed by a colon, and then by its functions
-NAME = re.compile(r"`(\w+)`(:?)")
+# A crate with its functions, which may go on in further lines.
+ENTRY = re.compile(r"(\w+):((?:\s+\w+)+)")
 OPENING, CLOSING = "([{<", ")]}>"
 
 
@@ -71,14 +71,12 @@ def in_sources():
 
 
 def in_list():
-    """What stands in the list, as crate and name."""
-    section = text_of("docs/DECISIONS.md").partition(f"{HEADING}\n")[2].partition("\n## ")[0]
-    listed, crate = set(), None
-    for name, is_crate in NAME.findall(section):
-        if is_crate:
-            crate = name
-        else:
-            listed.add((crate, name))
+    """The functions of the list, as crate and name. A line that belongs to no entry is an error."""
+    listed = set()
+    for line in text_of(LIST).replace("\n    ", " ").splitlines():
+        if line and not line.startswith("#"):
+            crate, functions = ENTRY.fullmatch(line).groups()
+            listed |= {(crate, name) for name in functions.split()}
     return listed
 
 

@@ -10,6 +10,9 @@ NO_MEMORY = (3, "recw: out of memory\n")
 NO_CELLS = (3, "recw: out of cells\n")
 NO_READ = (4, "recw: read failed\n")
 NO_WRITE = (4, "recw: write failed\n")
+# what is told of a closed pipe, and with --explain
+CLOSED = (4, "")
+CLOSED_EXPLAINED = (4, "recw: write failed\n<stdout>: Broken pipe\n")
 TRIED = []
 
 

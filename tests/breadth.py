@@ -5,7 +5,7 @@ import os
 from concurrent.futures import ProcessPoolExecutor
 from functools import partial
 
-from attempts import NO_READ, NO_WRITE, check, check_long, recw, room, run, write_file
+from attempts import CLOSED, NO_READ, NO_WRITE, check, check_long, recw, room, run, write_file
 from common import program
 from memory import CALLER
 from refuse import failing
@@ -142,7 +142,7 @@ def try_callers():
     if not os.path.exists(CALLER):
         print(f"not tried: breadth of banks: {CALLER} is not there; rt run in crates/hostile builds it")
         return
-    due = (0, "ready\ndone\n20000 cells\nroom for as many\n", "")
+    due = (0, "ready\ndone\n20000 cells\nroom for them\n", "")
     for kind in ("plain", "shared"):
         check(f"{kind}: twenty thousand cells", due, run(CALLER, kind, "broad"))
 
@@ -159,7 +159,7 @@ def try_breadth():
 def try_errors():
     """Each number of an error, at the first read of a file and at the first write.
 
-    The program's buffer may try an interrupted write again. How many calls failed.
+    The program's buffer may try an interrupted write again, and a closed pipe has no message. How many calls failed.
     """
     numbers = sorted(errno.errorcode)
     with room() as at, ProcessPoolExecutor(len(os.sched_getaffinity(0))) as pool:
@@ -168,6 +168,7 @@ def try_errors():
             runs = pool.map(partial(failing, words, at, call), numbers, chunksize=16)
             for number, it in zip(numbers, runs):
                 again = (call, number) == ("write", errno.EINTR) and (it["status"], it["out"]) == (0, "f(a)\n")
-                met = (it["counts"], it["status"], it["err"], it["out"]) == (1, *told, "")
+                wanted = CLOSED if (call, number) == ("write", errno.EPIPE) else told
+                met = it["counts"] is not None and (it["status"], it["err"], it["out"]) == (*wanted, "")
                 check(f"{call}: {errno.errorcode[number]}: {it}", True, met or again)
     return 2 * len(numbers)

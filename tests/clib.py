@@ -2,18 +2,25 @@
 """Tries the C library: clib.py [PART..].
 
     every       each call from C, as C99 and as C++, and under the compiler's sanitizers; a small evaluator in C
+    stop        evaluations that another thread and a signal handler of a program in C stop
+    header      the header alone, by each standard from C99 and from C++11 on, without a warning of gcc or of clang
     refused     each request for memory refused, in each call that makes requests
-    python      the module percalesilt.py, its tests, and two examples
+    python      the package percalesilt, its tests, and two examples
+    types       the types of the package and of the programs in clib/users, by mypy --strict
+    threads     threads that share a store for 2 seconds; `threads=SECONDS` for another time
+    terms       20,000 random calls of the package by four threads, compared with a model; `terms=COUNT` for more
     rust        a program in Rust over the archive
     random      100,000 random calls beside a model; `random=COUNT` for another number
     valgrind    the programs of `every` and `refused` once more
     install     what is installed serves a program that knows pkg-config alone
 
 Without words these are all but `valgrind` and `install`. What a command is missing for is passed over, and said. The
-word `built` before them takes the archive of the crate as it stands; without it rt builds it anew where it has to.
+word `built` before them takes the archive of the crate as it is, and `released` the libraries of release/, for which no
+kit is needed; without both rt builds the archive anew if it has to.
 """
 
 import os
+import re
 import shutil
 import subprocess
 import sys
@@ -21,10 +28,15 @@ import tempfile
 
 from common import TOP, done, same
 
+sys.path.insert(0, f"{TOP}/packaging")
+from released import lack_of
+
 USERS = f"{TOP}/clib/users"
 BUILD = f"{TOP}/clib/build"
-USUAL = ("every", "refused", "python", "rust", "random")
-WARNINGS = ["-Wall", "-Wextra", "-pedantic", "-Werror"]
+USUAL = ("every", "stop", "header", "refused", "python", "types", "threads", "terms", "rust", "random")
+WARNINGS = ["-Wall", "-Wextra", "-Wpedantic", "-Werror"]
+STANDARDS = {"c": "c99 c11 c17", "c++": "c++11 c++14 c++17 c++20"}
+COMPILERS = {"gcc": "c", "clang": "c", "g++": "c++", "clang++": "c++"}
 WRAPPED = ["-Wl,--wrap=malloc,--wrap=realloc,--wrap=free"]
 
 
@@ -64,6 +76,24 @@ def every(folder):
         same("every.c as C++", "all as wanted", told([program]))
 
 
+def stop(folder):
+    if is_there("stop", "cc"):
+        same("stop.c", "all as wanted", told([compiled(folder, "stop", "-pthread")]))
+
+
+def header(folder):
+    with open(f"{folder}/alone.c", "w", encoding="utf-8") as file:
+        file.write(
+            f'#include "{TOP}/clib/percalesilt.h"\n'
+            "int main(void)\n{\n    psilt p = PSILT_INIT;\n    psilt_code code = psilt_open(&p, 9);\n"
+            "    return psilt_errstr(code)[0] + psilt_version()[0];\n}\n"
+        )
+    for compiler, language in COMPILERS.items():
+        for it in STANDARDS[language].split() if is_there(f"header by {compiler}", compiler) else ():
+            words = [compiler, f"-std={it}", *WARNINGS, "-fsyntax-only", "-x", language, f"{folder}/alone.c"]
+            same(f"the header as {it} by {compiler}", "", told(words))
+
+
 def refused(folder):
     if is_there("refused", "cc"):
         answer = told([compiled(folder, "refused", *WRAPPED)])
@@ -84,6 +114,26 @@ def python(_):
     }
     answer = told([sys.executable, "-B", f"{USERS}/logic.py", *texts])
     same("logic.py", "\n".join(texts.values()), answer)
+
+
+def types(folder):
+    same("typed.py", "typed.py: as wanted", told([sys.executable, "-B", f"{USERS}/typed.py"]))
+    same("py.typed", True, os.path.exists(f"{TOP}/clib/percalesilt/py.typed"))
+    if is_there("types", "mypy"):
+        words = ["mypy", "--strict", "--no-error-summary", f"--cache-dir={folder}/mypy"]
+        place = {**os.environ, "MYPYPATH": f"{TOP}/clib"}
+        programs = sorted(f"{USERS}/{it}" for it in os.listdir(USERS) if it.endswith(".py"))
+        same("mypy --strict", "", told([*words, f"{TOP}/clib/percalesilt", *programs], env=place))
+
+
+def threads(_, seconds="2"):
+    answer = told([sys.executable, "-B", f"{USERS}/threads.py", seconds])
+    same("threads.py", "terms as wanted", answer.partition(" ")[2].partition(" ")[2])
+
+
+def terms(_, count="20000"):
+    answer = told([sys.executable, "-B", f"{USERS}/random_terms.py", count])
+    same("random_terms.py", "calls as wanted", answer.partition(" ")[2].partition(" ")[2])
 
 
 def rust(folder):
@@ -111,6 +161,9 @@ def install(folder):
         words = ["make", "-s", "-C", f"{TOP}/clib", "install", f"PREFIX={folder}/installed"]
         subprocess.run(words, check=True, stdout=subprocess.DEVNULL)
         place = {**os.environ, "PKG_CONFIG_PATH": f"{folder}/installed/lib/pkgconfig"}
+        with open(f"{TOP}/clib/percalesilt.h", encoding="utf-8") as file:
+            parts = re.findall(r"#define PSILT_VERSION_M?[AIP][A-Z]* ([0-9]+)\n", file.read())
+        same("the version of pkg-config", ".".join(parts), told(["pkg-config", "--modversion", "percalesilt"], env=place))
         words = told(["pkg-config", "--cflags", "--libs", "percalesilt"], env=place).split()
         with open(f"{folder}/only.c", "w", encoding="utf-8") as file:
             file.write("#include <percalesilt.h>\nint main(void) { psilt p = PSILT_INIT; return psilt_open(&p, 9); }\n")
@@ -120,14 +173,18 @@ def install(folder):
 
 
 def main():
-    if not is_there("clib", "make", "cc", "rt"):
-        done()
     words = sys.argv[1:]
-    stands = words[:1] == ["built"]
-    built = told(["make", "-s", "-C", f"{TOP}/clib", *["PROVE=:"] * stands])
+    way = {"built": ["PROVE=:"], "released": ["released"]}.get(words[0] if words else "")
+    lack = lack_of("libpercalesilt.a") or lack_of("libpercalesilt.so") if way == ["released"] else ""
+    if lack:
+        print(f"not tried: the C library, since {lack}")
+        done()
+    if not is_there("clib", "make", "cc", *["rt"] * (way != ["released"])):
+        done()
+    built = told(["make", "-s", "-C", f"{TOP}/clib", *(way or [])])
     same("make -C clib", False, built[-2000:] if "(status" in built else False)
     with tempfile.TemporaryDirectory() as folder:
-        for word in words[stands:] or USUAL:
+        for word in words[way is not None :] or USUAL:
             part, _, count = word.partition("=")
             globals()[part](folder, *([count] if count else []))
     done()

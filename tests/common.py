@@ -41,6 +41,20 @@ def quoted(cell):
     return re.findall(r"`([^`]*)`", cell)
 
 
+def tables(text):
+    """The tables of a document: the names of the columns, and the rows, each a list of cells."""
+    head, found = None, []
+    for line in [*text.splitlines(), ""]:
+        cells = [it.strip() for it in line.split("|")[1:-1]] if line.startswith("|") else []
+        if not cells and head:
+            yield tuple(head), found[1:]
+            head, found = None, []
+        elif head:
+            found.append(cells)
+        else:
+            head = cells
+
+
 def rows():
     """The file words, the options and the output of each row of the table, a row for each list of options."""
     files = ""

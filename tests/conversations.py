@@ -5,7 +5,7 @@ import signal
 import subprocess
 import time
 
-from attempts import EXAMPLES, NO_MEMORY, NO_READ, NO_WRITE, at_stack, check, check_long, recw, room, write_file
+from attempts import CLOSED, EXAMPLES, NO_MEMORY, NO_READ, NO_WRITE, at_stack, check, check_long, recw, room, write_file
 from common import program
 from refuse import answer, is_allowed
 
@@ -13,7 +13,7 @@ from refuse import answer, is_allowed
 DEEP = 300_000
 # The most bytes of a request.
 LONGEST = 16_777_216
-# Twenty requests for examples/q.rec within one step, and their answers with the steps, by docs/FORMATS.md.
+# Twenty requests for examples/q.rec within one step, and their answers with the steps, by docs/reference/cli.md.
 TWENTY = (
     ("f(a)", "a\t1"),
     ("b", "b\t0"),
@@ -39,6 +39,14 @@ TWENTY = (
 INPUT = "".join(f"{request}\n" for request, _ in TWENTY)
 OUTPUT = "".join(f"{due}\n" for _, due in TWENTY)
 WORDS = ("serve", "--steps", "1", "--count", "q.rec")
+# More requests of the same kinds.
+MORE = (("% a", "!term A"), ("<a>", "!term T2"), ("f([])", "!term T2"), ("X", "!term T4"))
+# A value with twice as many leaves for each s, in two steps.
+DOUBLING = (
+    "REC-SPEC Double SORTS Nat Tree CONS z : -> Nat s : Nat -> Nat leaf : -> Tree node : Tree Tree -> Tree "
+    "OPNS d : Nat -> Tree dup : Tree -> Tree VARS X : Nat T : Tree "
+    "RULES d(z) -> leaf d(s(X)) -> dup(d(X)) dup(T) -> node(T,T) EVAL END-SPEC"
+)
 # Each beginning of a request, and its answer.
 CUT = (("p", "!term T4"), ("plus", "!term T5"), ("plus(", "!term A"), ("plus(z,z)", "z"))
 
@@ -60,6 +68,8 @@ def try_ends():
     for text, due in (("", ""), ("\n", "!term A\n"), ("z", "z\n"), ("z\n\nz", "z\n!term A\nz\n"), ("z\r\n", "z\n")):
         check(f"requests {text!r}", (0, due, ""), recw("serve", "add.rec", input=text))
     check("twenty requests", (0, OUTPUT, ""), recw(*WORDS, input=INPUT))
+    for request, due in MORE:
+        check(f"the request {request!r}", (0, f"{due}\n", ""), recw(*WORDS, input=request))
     for options in (("--memo", "0"), ("--reclaim", "1"), ("--memo", "1", "--reclaim", "1")):
         check(f"twenty requests, {options}", (0, OUTPUT, ""), recw(*WORDS, *options, input=INPUT))
     refused = recw("serve", "/dev/null", input=INPUT)
@@ -74,7 +84,7 @@ def try_explained():
     check("explained requests", refused, [int(it.split(":")[1]) for it in lines])
     check("the output beside it", (0, OUTPUT), told[:2])
     check("the first one told", True, lines[0].startswith("<stdin>:6:1: A: "))
-    check("a count of arguments", True, "<stdin>:16:1: T5: " in told[2] and "; f takes 1 argument, here 2" in told[2])
+    check("a count of arguments", True, "<stdin>:16:1: T5: " in told[2] and "; f takes 1 argument, found 2" in told[2])
 
 
 def try_cells():
@@ -121,7 +131,7 @@ def try_closed():
     with subprocess.Popen([program(), *WORDS], **how) as child:
         os.close(ends[1])
         told = child.communicate(INPUT.encode("latin-1"), timeout=10)[1].decode("latin-1")
-    check("nobody reads", NO_WRITE, (child.returncode, told))
+    check("nobody reads", CLOSED, (child.returncode, told))
     for number in (signal.SIGINT, signal.SIGTERM, signal.SIGHUP):
         how = {"stdin": subprocess.PIPE, "stdout": subprocess.PIPE, "stderr": subprocess.PIPE, "cwd": EXAMPLES}
         with subprocess.Popen([program(), "serve", "add.rec"], **how) as child:
@@ -179,10 +189,57 @@ def try_deep():
     check(f"calls without end, {DEEP} KiB of memory", (0, "z\n!depth\n!term A\n!depth\nz\n", ""), found)
 
 
-def memory_of(child):
-    """How many KiB of memory a process has."""
+def memory_of(child, kind="VmRSS"):
+    """How many KiB of memory a process has, or has had at most (VmHWM)."""
     with open(f"/proc/{child.pid}/status", encoding="ascii") as file:
-        return next(int(it.split()[1]) for it in file if it.startswith("VmRSS:"))
+        return next(int(it.split()[1]) for it in file if it.startswith(f"{kind}:"))
+
+
+def within(line, most):
+    """The line of a result where a result has at most so many bytes."""
+    value = line.split("\t")[0]
+    return line if value.startswith("!") or len(value) <= most else f"!bytes {most}"
+
+
+def doubled(count):
+    """The request for a value of 2^count leaves."""
+    return f"d({'s(' * count}z{')' * count})\n".encode("ascii")
+
+
+def try_bytes(at):
+    """Results that are longer than they may be, between others: of few bytes, and of 2^60 leaves in a few cells."""
+    given = write_file(f"{at}/given", "[f(a){b,[3]},f(f(a)){b},b]")
+    for most in range(24):
+        bound = ("--bytes", str(most))
+        due = "".join(f"{within(it, most)}\n" for _, it in TWENTY)
+        check(f"twenty requests, {most} bytes", (0, due, ""), recw(*WORDS, *bound, input=INPUT))
+        lines = [within(it, most) for it in ("a\t1", "a{b,[3]}\t1", "!limit 1", "b\t0")]
+        found = recw("eval", "--count", "--steps", "1", *bound, "q.rec", given)
+        check(f"given terms, {most} bytes", (0, "".join(f"{it}\n" for it in lines), ""), found)
+        notes = ("", "{b,[3]}" if lines[1].startswith("!") else "", "{b}", "")
+        due = "".join(f"{line}{more}\n" for line, more in zip(lines, notes))
+        found = recw("eval", "--count", "--steps", "1", *bound, "--limit-annotations", "q.rec", given)
+        check(f"given terms, {most} bytes, annotations", (0, due, ""), found)
+    spec = write_file(f"{at}/doubling", DOUBLING)
+    found = recw("eval", "--limit-status", "--bytes", "36", "-e", "d(s(s(z)))", "-e", "d(s(z))", spec)
+    check("a doubled value of 37 bytes", (5, "!bytes 36\nnode(leaf,leaf)\n", ""), found)
+    with subprocess.Popen([program(), "serve", spec], stdin=subprocess.PIPE, stdout=subprocess.PIPE) as child:
+        began = time.monotonic()
+        peaks = []
+        for batch in (1, 20):
+            for _ in range(batch):
+                child.stdin.write(doubled(60) + doubled(1))
+                child.stdin.flush()
+                found = [child.stdout.readline() for _ in range(2)]
+                check("2^60 leaves, and two", [b"!bytes 16777216\n", b"node(leaf,leaf)\n"], found)
+            peaks.append(memory_of(child, "VmHWM"))
+            print(f"2^60 leaves {batch} times: {time.monotonic() - began:.2f} s, {peaks[-1]} KiB")
+        child.stdin.close()
+        child.wait(timeout=10)
+    check(f"memory for one request of 2^60 leaves, and for more, in KiB: {peaks}", True, peaks[1] <= min(1.05 * peaks[0], 97_000))
+    with subprocess.Popen([program(), "serve", "--bytes", "9999", spec], stdin=subprocess.PIPE, stdout=subprocess.PIPE) as child:
+        out = child.communicate(doubled(60) * 1000, timeout=60)[0]
+    check_long("2^60 leaves, 1,000 times", b"!bytes 9999\n" * 1000, out)
 
 
 # Requests that differ by a number: of strangers' names, over the limit, refused, with annotations, out of cells.
@@ -206,7 +263,9 @@ def try_days():
             sizes.append(memory_of(child))
         child.stdin.close()
         child.wait(timeout=10)
-    check(f"memory over 105,000 requests, in KiB: {sizes[1]} and {sizes[-1]}", True, sizes[-1] <= 1.1 * sizes[1])
+    # the allocator's free blocks settle in the first third
+    first, last = max(sizes[:7]), max(sizes[14:])
+    check(f"memory in the first and the last third of 105,000 requests, in KiB: {first} and {last}", True, last <= 1.05 * first)
 
 
 def try_conversations():
@@ -215,6 +274,7 @@ def try_conversations():
         group()
     with room() as at:
         try_folders(at)
+        try_bytes(at)
         if not is_allowed():
             print("not tried: conversations without memory: no program can be traced here")
             return 0

@@ -1,18 +1,23 @@
 #!/usr/bin/env -S python3 -B
-"""Compares the highlighting of Vim, of the TextMate grammar, and of the page of web/ by that grammar, with the tokens of
-docs/FORMATS.md, on all examples; and what editors read of the lines of a check."""
+"""Compares highlighting by Vim, by the TextMate grammar, and by the page of web/ with the tokens of the reference, on all
+examples; and what editors read of the lines of a check. Tests the files and the task of the extension for Visual Studio
+Code. With a program, tests the language server, also with Neovim, Emacs and the client of the extension, and the prompt,
+on a terminal: editors.py [PROGRAM]"""
 
 import glob
 import json
+import os
 import re
 import shutil
 import tempfile
 
 from common import TOP, done, run, same
+from language_server import try_server
+from prompt_session import try_prompt
 
 SECTIONS = {"REC-SPEC", "SORTS", "CONS", "OPNS", "VARS", "RULES", "EVAL", "END-SPEC"}
 
-# The tokens' table of docs/FORMATS.md, and words of sections within other words.
+# The tokens' table of docs/reference/rec.md, and words of sections within other words.
 TRICKY = """REC-SPEC T % comment: SORTS -> if é
 SORTS A a-CONS CONSX B' -CONS
 CONS a : A B -> A b: ->A OPNS-x : -> A é CONS' :->B
@@ -124,7 +129,7 @@ class Grammar:
     """What of TextMate grammars rec.tmLanguage.json uses: match, begin and end with one capture, include."""
 
     def __init__(self):
-        with open(f"{TOP}/editors/rec.tmLanguage.json", encoding="utf-8") as file:
+        with open(f"{TOP}/editors/vscode/rec.tmLanguage.json", encoding="utf-8") as file:
             self.whole = json.load(file)
 
     def flat(self, patterns):
@@ -171,7 +176,7 @@ process.stdout.write(JSON.stringify(found));"""
 
 def page_scopes(text):
     """The scope of each character, line by line, as the page finds it."""
-    words = ["node", "-e", PARTS, f"{TOP}/web/grammar.js", f"{TOP}/editors/rec.tmLanguage.json"]
+    words = ["node", "-e", PARTS, f"{TOP}/web/grammar.js", f"{TOP}/editors/vscode/rec.tmLanguage.json"]
     scopes = [""] * len(text)
     for part in json.loads(run(words, input=text)):
         scopes[part["from"] : part["to"]] = [part["name"].replace("-", ".")] * (part["to"] - part["from"])
@@ -191,22 +196,85 @@ def check(name, text, found, which):
             same(f"{which}, {name}, {line!r}, {word}", names[index], found[row][column])
 
 
-# Lines of a check, and what is read of each: the file, the line, the column, and the rest.
+# Lines of a check, and what is read of each: the file, the line, the column, the code, the rest, and the severity.
 LINES = (
-    ("check/a.rec:7:8: S5: a word is neither a symbol nor a variable: zero", ("check/a.rec", "7", "8", "S5", "a word is neither a symbol nor a variable: zero")),
-    ("b.rec:1:1: G: no specification has this here", ("b.rec", "1", "1", "G", "no specification has this here")),
-    ("c d.rec:12:30: W4: never used: a variable of no rule: Z", ("c d.rec", "12", "30", "W4", "never used: a variable of no rule: Z")),
+    (
+        "check/a.rec:7:8: error: undeclared symbol or variable in RULES or EVAL: zero [S5]",
+        ("check/a.rec", "7", "8", "S5", "undeclared symbol or variable in RULES or EVAL: zero", "error"),
+    ),
+    (
+        "b.rec:1:1: error: syntax error in the specification [G]",
+        ("b.rec", "1", "1", "G", "syntax error in the specification", "error"),
+    ),
+    (
+        "c d.rec:12:30: warning: unused variable: Z [W4]",
+        ("c d.rec", "12", "30", "W4", "unused variable: Z", "warning"),
+    ),
 )
+
+# A stand-in for Visual Studio Code: it prints the tasks that an extension provides.
+EDITOR = """
+const [, folder] = process.argv, Module = require('module'), load = Module._load;
+class ShellExecution { constructor(command, args, options) { Object.assign(this, { command, args, options }); } }
+class Task {
+  constructor(definition, scope, name, source, run, matchers) {
+    Object.assign(this, { definition, scope, name, source, run, matchers });
+  }
+}
+const workspace = { getConfiguration: () => ({ get: (key, value) => value }) };
+const tasks = { registerTaskProvider: (type, provider) => ({ type, provider }) };
+const vscode = { ShellExecution, Task, TaskScope: { Workspace: 2 }, TaskGroup: { Build: 'build' }, workspace, tasks };
+Module._load = (name, ...more) => (name === 'vscode' ? vscode : load(name, ...more));
+const context = { subscriptions: [] };
+require(folder).activate(context);
+const [{ type, provider }] = context.subscriptions;
+const given = provider.provideTasks();
+process.stdout.write(JSON.stringify({ type, given, again: provider.resolveTask(given[0]) }));
+"""
+
+
+def severity_of(matcher, found):
+    """The severity of a problem, as Visual Studio Code reads it."""
+    word = found[matcher["pattern"]["severity"]]
+    return word if word in ("error", "warning", "info") else matcher["severity"]
+
+
+def check_extension():
+    """The extension names files that are there, and its task checks the open file."""
+    folder = f"{TOP}/editors/vscode"
+    with open(f"{folder}/package.json", encoding="utf-8") as file:
+        about = json.load(file)
+    with open(f"{folder}/language-configuration.json", encoding="utf-8") as file:
+        word = re.compile(json.load(file)["wordPattern"])
+    same("language configuration: words", ["a-b", "B'", "c", "0x_"], word.findall("a-b B'-> %c- 0x_"))
+    given = about["contributes"]
+    named = [about["main"], given["languages"][0]["configuration"], given["grammars"][0]["path"]]
+    same("extension: files", [], [it for it in named if not os.path.exists(f"{folder}/{it}")])
+    with open(f"{folder}/rec.tmLanguage.json", encoding="utf-8") as file:
+        same("extension: scope", json.load(file)["scopeName"], given["grammars"][0]["scopeName"])
+    same("extension: language", given["languages"][0]["id"], given["grammars"][0]["language"])
+    if not shutil.which("node"):
+        print("not tried: the task of the extension, since there is no node")
+        return
+    found = json.loads(run(["node", "-e", EDITOR, folder]) or "{}")
+    same("extension: kind of task", given["taskDefinitions"][0]["type"], found.get("type"))
+    same("extension: the task that is named", found.get("given"), [found.get("again")])
+    task = found["given"][0]
+    same("extension: definition", {"type": "recw", "command": "check"}, task["definition"])
+    same("extension: command", ["recw", "check", "${relativeFile}"], [task["run"]["command"], *task["run"]["args"]])
+    same("extension: matchers", [f"${it['name']}" for it in given["problemMatchers"]], task["matchers"])
 
 
 def check_lines(room):
     """The lines of a check are read by the problem matcher, and by Vim's compiler."""
-    with open(f"{TOP}/editors/problem-matcher.json", encoding="utf-8") as file:
-        pattern = json.load(file)["pattern"]
+    with open(f"{TOP}/editors/vscode/package.json", encoding="utf-8") as file:
+        matcher = json.load(file)["contributes"]["problemMatchers"][0]
+    pattern = matcher["pattern"]
     for line, wanted in LINES:
         match = re.fullmatch(pattern["regexp"], line)
         parts = ("file", "line", "column", "code", "message")
-        same(f"problem matcher: {line}", wanted, match and tuple(match[pattern[it]] for it in parts))
+        found = match and (*(match[pattern[it]] for it in parts), severity_of(matcher, match))
+        same(f"problem matcher: {line}", wanted, found)
     if not shutil.which("vim") or "+quickfix" not in run(["vim", "--version"]):
         print("not tried: vim with quickfix is not here")
         return
@@ -238,8 +306,11 @@ def main():
     has_node = shutil.which("node")
     if not has_node:
         print("not tried: the colours of the page, since there is no node")
+    check_extension()
     with tempfile.TemporaryDirectory() as room:
         check_lines(room)
+        try_server(room)
+        try_prompt(room)
         for name, text in texts.items():
             check(name, text, grammar.scopes(text), "grammar")
             if has_node:

@@ -3,8 +3,8 @@
 
 The examples are the rows of the table of examples/README.md, the specifications that tests/oracles.py
 works out too, the blocks marked `console` of the Markdown files, where each line `$ COMMAND` is
-followed by what it prints, and those of the manual page. An example with an option that the program's
-help does not have is named, and not run.
+followed by what it prints, those of the manual page, and the tables of docs/reference and corners.md. An example with
+an option that the program's help does not have is named, and not run.
 """
 
 import glob
@@ -18,7 +18,7 @@ import sys
 import tempfile
 
 import oracles
-from common import TOP, done, program, rows, run, same, text_of
+from common import TOP, done, program, quoted, rows, run, same, tables, text_of
 
 # What takes no end of time where results are not remembered.
 NEEDS = {"rows/fast.rec": ["--memo"]}
@@ -40,7 +40,7 @@ def check_table(known):
     for name in oracles.WORKED:
         tried.update([f"{name}.rec", f"{name}.trm"])
     there = {it for it in glob.glob("**/*.*", root_dir=f"{TOP}/examples", recursive=True) if not it.endswith(".md")}
-    there = {it for it in there if not it.startswith(("tutorial/", "check/")) and not it.endswith(".py")}
+    there = {it for it in there if not it.startswith(("tutorial/", "check/", "join/")) and not it.endswith(".py")}
     same("examples/README.md: files", sorted(there), sorted(tried))
 
 
@@ -54,7 +54,7 @@ def check_oracles():
 
 def consoles():
     """Each block of commands of the documents with what they are said to print."""
-    for file in ["README.md", "examples/README.md", *sorted(glob.glob("docs/*.md", root_dir=TOP))]:
+    for file in ["README.md", "examples/README.md", *sorted(glob.glob("docs/**/*.md", root_dir=TOP, recursive=True))]:
         for block in re.findall(r"^```console\n(.*?)^```$", text_of(file), re.M | re.S):
             yield file, block
     page = text_of("recw.1")
@@ -130,9 +130,13 @@ def check_scale(room):
     if not python:
         print("not tried: Dask is not here")
         return
-    for recw in (program(), once(f"{room}/cluster", "$PPID")):
+    # a name is looked up in PATH, not in the folder that it is run in
+    os.mkdir(f"{room}/elsewhere")
+    os.symlink("/bin/false", f"{room}/elsewhere/recw")
+    how = {"cwd": f"{room}/elsewhere", "env": {**os.environ, "PATH": f"{room}/bin:{os.environ['PATH']}"}}
+    for recw in (program(), once(f"{room}/cluster", "$PPID"), "recw"):
         words = [python, f"{TOP}/examples/cluster.py", recw, spec, "2"]
-        same(f"docs/SCALE.md: {recw}", True, due == run(words, input=text, stderr=subprocess.DEVNULL, timeout=300))
+        same(f"docs/SCALE.md: {recw}", True, due == run(words, input=text, stderr=subprocess.DEVNULL, timeout=300, **how))
 
 
 def check_specifications():
@@ -144,6 +148,198 @@ def check_specifications():
             same(f"{file}: {name}", text_of(name), block)
             shown.add(name)
     same("specifications that documents show", set(glob.glob("examples/tutorial/*.rec", root_dir=TOP)), shown)
+    shown = re.search(r"^```rec\n(REC-SPEC Q .*?)^```$", text_of("docs/reference/rec.md"), re.M | re.S)[1]
+    same("docs/reference/rec.md: examples/q.rec", text_of("examples/q.rec"), shown)
+
+
+def recw(*words, text=""):
+    """The status and both outputs of the program, with a text on standard input."""
+    ran = subprocess.run([program(), *words], input=text, capture_output=True, text=True, check=False, timeout=60)
+    return ran.returncode, ran.stdout, ran.stderr
+
+
+def with_offsets(texts, cell):
+    """The texts of a cell, each with its number of another cell, which has one for each, one for all, or none."""
+    found = [int(it) for it in re.findall(r"\d+", cell)] or [None]
+    texts = quoted(texts)
+    numbers = found * len(texts) if len(found) == 1 else found
+    same(f"an offset for each of {texts}", len(texts), len(numbers))
+    return zip(texts, numbers)
+
+
+def check_cells(rows_of_table):
+    for text, count, _ in rows_of_table:
+        text = quoted(text)[0]
+        same(f"cells of {text}", (0, f"{text}\ncells {count}\n", ""), recw("share", text=text))
+
+
+def check_printed(rows_of_table):
+    for texts, printed in rows_of_table:
+        same(f"as many as {texts}", len(quoted(texts)), len(quoted(printed)))
+        for text, line in zip(quoted(texts), quoted(printed)):
+            same(f"aterm {text}", (0, f"{line}\n", ""), recw("aterm", text=text))
+
+
+def check_outside_terms(rows_of_table):
+    for texts, places, _ in [*rows_of_table, ("``", "0", "")]:
+        for text, at in with_offsets(texts, places):
+            same(f"aterm {text}", (1, "!term A\n", f"recw: term A at byte {at}\n"), recw("aterm", text=text))
+
+
+def check_outside_specifications(rows_of_table):
+    for texts, places in [*rows_of_table, ("``", "0")]:
+        for text, at in with_offsets(texts, places):
+            wanted = (0, "", "") if at is None else (1, "!spec G\n", f"recw: spec G at byte {at}\n")
+            same(f"eval {text}", wanted, recw("eval", text=text))
+
+
+def check_patterns(rows_of_table):
+    for code, _, patterns, _ in rows_of_table:
+        for it in quoted(patterns):
+            same(f"match {it}", (1, f"!pattern {quoted(code)[0]}\n", ""), recw("match", it, text="a"))
+    for it in ("<int()>", "<int{}>"):
+        same(f"match {it}", (0, "yes\n1\n", ""), recw("match", it, text="1"))
+
+
+def check_matches(rows_of_table):
+    for pattern, term, output in rows_of_table:
+        pattern, term = quoted(pattern)[0], quoted(term)[0]
+        wanted = "".join(f"{it}\n" for it in quoted(output))
+        same(f"match {pattern} {term}", (0, wanted, ""), recw("match", pattern, text=term))
+
+
+def check_arguments(rows_of_table):
+    for code, _, pattern, arguments, _ in rows_of_table:
+        for it in quoted(arguments):
+            wanted = (1, f"!args {quoted(code)[0]}\n", "")
+            same(f"make {pattern} {it}", wanted, recw("make", quoted(pattern)[0], it))
+
+
+def check_made(rows_of_table):
+    for pattern, arguments, output in rows_of_table:
+        words = ("make", quoted(pattern)[0], quoted(arguments)[0])
+        same(f"{words}", (0, f"{quoted(output)[0]}\n", ""), recw(*words))
+
+
+SECTIONS = "SORTS|CONS|OPNS|VARS|RULES|EVAL|END-SPEC"
+# The offset of the error in each changed part of examples/q.rec.
+LOCATIONS = {
+    "SORTS A B A": 10,
+    "OPNS f : A -> A a : -> A": 16,
+    "VARS X Y X : A": 9,
+    "VARS X a : A": 7,
+    "VARS X Y : C": 11,
+    "EVAL f(c)": 7,
+    "EVAL f(a,a) c": 12,
+    "EVAL f(a,a)": 5,
+    "EVAL f()": 5,
+    "RULES f(X(a)) -> X": 8,
+    "EVAL f(b)": 7,
+    "RULES f(b) -> a": 8,
+    "RULES a -> a": 6,
+    "RULES X -> a": 6,
+    "RULES f(X) -> b": 6,
+    "RULES f(X) -> X if a -><- b": 19,
+    "RULES f(X) -> Y": 14,
+    "EVAL f(X)": 7,
+}
+
+
+def changed(part):
+    """The specification examples/q.rec with these sections in place of its own."""
+    text = text_of("examples/q.rec")
+    for section in re.findall(rf"(?:{SECTIONS})\b.*?(?=\s(?:{SECTIONS})\b|$)", part):
+        own = rf"\b{section.split()[0]}\b.*?(?=\s+(?:{SECTIONS})\b)"
+        text = re.sub(own, lambda _, it=section: it, text, count=1, flags=re.S)
+    return text
+
+
+def check_rules(rows_of_table):
+    tried = set()
+    for code, violation, _, parts, _ in rows_of_table:
+        for part in quoted(parts):
+            text = changed(part)
+            if code == "none":
+                same(f"eval {part}", (0, "a\n", ""), recw("eval", text=text))
+                continue
+            code, message = code.strip("`"), quoted(violation)[0]
+            at = text.index(part) + LOCATIONS[part]
+            wanted = (1, f"!spec {code}\n", f"recw: spec {code} at byte {at}\n")
+            same(f"eval {part}", wanted, recw("eval", text=text))
+            line, column = text[:at].count("\n") + 1, at - text.rfind("\n", 0, at)
+            word = re.match(r"\w+", text[at:])[0]
+            found = recw("check", "-", text=text)[1].splitlines()[:1]
+            same(f"check {part}", [f"<stdin>:{line}:{column}: error: {message}: {word} [{code}]"], found)
+            tried.add(part)
+    same("changed parts", set(LOCATIONS), tried)
+
+
+# Where lists of input terms leave the grammar.
+CUT_TERMS = {"[f(a": 4, "[x']": 2}
+# Symbols whose names are not plain, and lists of them.
+NOT_PLAIN = "REC-SPEC N SORTS N CONS x' : -> N 0 : -> N 1a : -> N EVAL END-SPEC"
+LISTS = (
+    ("[\"x'\",\"0\",\"1a\"]", (0, "\"x'\"\n\"0\"\n\"1a\"\n", "")),
+    ("[0]", (1, "!terms T2\n", "")),
+    ("[1a]", (1, "!terms A\n", "recw: terms A at byte 2\n")),
+)
+
+
+def check_terms(rows_of_table):
+    for code, _, lists, _ in rows_of_table:
+        for text in quoted(lists):
+            status, output, told = recw("eval", "--steps", "1", f"{TOP}/examples/q.rec", "-", text=text)
+            if code == "none":
+                same(f"input terms {text}", (0, True, ""), (status, output.startswith("a\n"), told))
+                continue
+            told_of = f"recw: terms A at byte {CUT_TERMS[text]}\n" if code == "`A`" else ""
+            same(f"input terms {text}", (1, f"!terms {quoted(code)[0]}\n", told_of), (status, output, told))
+    with tempfile.NamedTemporaryFile("w", suffix=".rec", encoding="utf-8") as file:
+        file.write(NOT_PLAIN)
+        file.flush()
+        for text, wanted in LISTS:
+            same(f"input terms {text} of names that are not plain", wanted, recw("eval", file.name, "-", text=text))
+
+
+def check_steps(rows_of_table):
+    spec = re.search(r"^REC-SPEC R .*?^EVAL END-SPEC$", text_of("docs/reference/rec.md"), re.M | re.S)[0]
+    for term, limit, result, steps, _ in rows_of_table:
+        words = ("eval", "--count", "--steps", limit, "-e", quoted(term)[0], "-")
+        line = f"{quoted(result)[0]}\t{steps}".rstrip("\t")
+        same(f"{words}", (0, f"{line}\n", ""), recw(*words, text=spec))
+
+
+def check_statuses(rows_of_table, how):
+    for status, _, example, _ in rows_of_table:
+        command = quoted(example)[0]
+        ran = subprocess.run(["sh", "-c", command], capture_output=True, check=False, **how)
+        same(f"status of {command}", int(status), ran.returncode)
+
+
+def check_reference(room):
+    """The tables of docs/reference and tests/corners.md, by the names of their columns."""
+    how = {"cwd": room, "env": {**os.environ, "PATH": f"{room}/bin:{os.environ['PATH']}"}}
+    known = {
+        ("Term", "Cells", "Parts"): check_cells,
+        ("Text", "Printed text"): check_printed,
+        ("Text", "Offset of error `A`", "Fix"): check_outside_terms,
+        ("Error", "Meaning", "Examples", "Fix"): check_patterns,
+        ("Pattern", "Term", "Output of `recw match`"): check_matches,
+        ("Error", "Meaning", "Pattern", "Arguments", "Fix"): check_arguments,
+        ("Pattern", "Arguments", "Output of `recw make`"): check_made,
+        ("Specification", "Offset of error `G`"): check_outside_specifications,
+        ("Error", "Violation", "Locations", "Examples", "Fix"): check_rules,
+        ("Error", "Violation", "Examples", "Fix"): check_terms,
+        ("Term", "n", "Result", "Steps", "Reason"): check_steps,
+        ("Status", "Meaning", "Example", "Fix"): lambda it: check_statuses(it, how),
+    }
+    tried = set()
+    for file in [*sorted(glob.glob("docs/reference/*.md", root_dir=TOP)), "tests/corners.md"]:
+        for head, rows_of_table in tables(text_of(file)):
+            if head in known:
+                known[head](rows_of_table)
+                tried.add(head)
+    same("tables of docs/reference", set(known), tried)
 
 
 def main():
@@ -153,6 +349,7 @@ def main():
         check_oracles()
         check_specifications()
         check_consoles(room)
+        check_reference(room)
         check_helps(["eval", "serve", "trace", "aterm", "share", "match", "make", "check"], room)
         check_client()
         check_scale(room)

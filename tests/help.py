@@ -1,31 +1,15 @@
 #!/usr/bin/env -S python3 -B
-"""Compares the commands and options of the program's help with the manual page and the completions."""
+"""Compares the program's help with the sources that tests/options.py reads, the error codes with the reference, and the
+arguments of the command line with what the program makes of them."""
 
 import os
 import re
+import shlex
 import shutil
 import subprocess
-from typing import NamedTuple
 
-from common import TOP, done, program, run, same, text_of
-
-
-# Options that a command has beside those of eval, or says other words of.
-OWN = {
-    "aterm": ["--indent"],
-    "match": ["--test"],
-    "share": ["--dot", "--nodes"],
-    "trace": ["--count", "--whole", "--width", "--first", "--last", "--rule", "--symbol"],
-}
-
-
-class Option(NamedTuple):
-    """An option of the help: its value's name and default are empty where it has none."""
-
-    name: str
-    value: str
-    about: str
-    default: str
+import options
+from common import TOP, done, program, run, same, tables, text_of
 
 
 def help_of(*command):
@@ -42,20 +26,155 @@ def options_of(command):
     """The options of a command, but for the one that prints help."""
     section = help_of(command).partition("Options:\n")[2].split("\n\n")[0]
     row = r"^ +(?:-\w, )?(--[\w-]+)(?: <([\w:]+)>)? +(.*?)(?: \[default: (\S+)\])?$"
-    return [Option(*it) for it in re.findall(row, section, re.M) if it[0] != "--help"]
+    return [it for it in re.findall(row, section, re.M) if it[0] != "--help"]
+
+
+REFERENCE = ("docs/reference/aterm.md", "docs/reference/rec.md", "docs/reference/cli.md")
+# The errors in words.
+WORDS = {
+    "L1": "the text has more than 16777216 bytes",
+    "G": "syntax error in the specification",
+    "S1": "duplicate sort",
+    "S2": "duplicate symbol in CONS and OPNS, even with other sorts",
+    "S3": "duplicate variable, or variable with the name of a symbol",
+    "S4": "undeclared sort in CONS, OPNS or VARS",
+    "S5": "undeclared symbol or variable in RULES or EVAL",
+    "S6": "wrong number of arguments of a symbol, or arguments of a variable",
+    "S7": "argument of the wrong sort",
+    "S8": "left-hand side that does not start with an operator (a symbol of OPNS)",
+    "S9": "rule or condition whose two sides have different sorts",
+    "S10": "variable that is not in the left-hand side of its rule",
+    "S11": "variable in an EVAL term",
+    "A": "syntax error in the annotated term",
+    "T1": "input terms or arguments that are not one list without annotations",
+    "T2": "integer, list or placeholder as a subterm of an input term",
+    "T3": "annotations on a subterm that is not a whole input term",
+    "T4": "undeclared symbol, or wrong quotes (only plain names have none)",
+    "T5": "wrong number of arguments",
+    "T6": "argument of the wrong sort",
+    "P1": "placeholder other than <term>, <int>, <str>, <appl>, <placeholder>, <list>",
+    "P2": "placeholder with annotations",
+    "M1": "wrong number of arguments for the pattern",
+    "M2": "argument that does not match its placeholder",
+}
 
 
 def check_refusals():
-    """Compares the refusals in words with the tables and lists of the formats."""
-    formats = text_of("docs/FORMATS.md")
-    rows = re.findall(r"^\| `([ST]\d+)` \| ([^|]*?) \|", formats, re.M)
-    rows += re.findall(r"^- `([PTM]\d)`: (.*?)\.(?: |$)", formats, re.M)
+    """Compares the errors in words, and those that the reference has with an example and a fix."""
     told = dict(line.split(None, 1) for line in run([program(), "help", "refusals"]).splitlines())
-    named = re.findall(r"`([LGASPTM]\d*)`", formats)
-    same("refusals", {it for it in named if it not in ("S", "T", "P", "M")}, set(told))
-    for name, words in rows:
-        if name in told and name not in ("T1", "P1", "P2"):
-            same(f"refusal {name}", words, told[name])
+    same("errors in words", WORDS, told)
+    named = {it for name in REFERENCE for it in re.findall(r"`([LGASPTM]\d*)`", text_of(name))}
+    same("errors of the reference", set(told), named)
+    # L1 and G are explained in paragraphs
+    mended = {"`L1`", "`G`"}
+    for name in REFERENCE:
+        for head, rows in tables(text_of(name)):
+            if head[-1] == "Fix":
+                mended |= {f"`{it}`" for it in re.findall(r"error `(\w+)`", " ".join(head))}
+                mended |= {row[0] for row in rows if row[-1]}
+    same("errors without a fix", set(), {f"`{it}`" for it in told} - mended)
+
+
+def check_codes():
+    """Compares the help of each code with the list and with the lines of `check`, and its parts."""
+    warnings = re.findall(r"^\| `(W\d)` \| (\w[^:|]*)", text_of("docs/reference/cli.md"), re.M)
+    same("warnings of the reference", [f"W{it}" for it in range(1, 6)], [it for it, _ in warnings])
+    for code in [*WORDS, *(it for it, _ in warnings)]:
+        shown = re.fullmatch(r"(\w+) +(.*)\n\nExample: (.+)\nFix: (.+)\n", run([program(), "help", code]))
+        same(f"help of {code}", (code, True), (shown[1], all(shown.groups())) if shown else None)
+        if code in WORDS and shown:
+            same(f"help of {code}: words", WORDS[code], shown[2])
+
+
+def obeyed(words, text=""):
+    """The status and both outputs for the words of a shell, in the folder of examples."""
+    how = {"cwd": f"{TOP}/examples", "input": text, "capture_output": True, "text": True, "check": False}
+    ran = subprocess.run([program(), *shlex.split(words)], **how)
+    return ran.returncode, ran.stdout, ran.stderr
+
+
+# Words that print the help of a command, and the command, which is empty for the program's own help.
+HELPS = (
+    ("-h", ""), ("help", ""), ("-hx", ""), ("--help x", ""), ("eval -h", "eval"), ("eval -hx", "eval"),
+    ("eval -hh", "eval"), ("help eval", "eval"), ("match --help", "match"), ("match a b --help", "match"),
+    ("match --help a b c", "match"), ("match --help -x", "match"),
+)
+# Words that are wrong: what is no command, what is no option, what is given twice, in part, or with a value, numbers
+# that are none or out of range, and what is missing, too much, or of another command.
+WRONG = (
+    "help x", "help eval x", "help -h", "help --", "help refusals x", "-", "x", "''", "EVAL", "ev", "--", "-- eval",
+    "-xh", "eval -xh", "eval -V", "eval --version", "eval --he", "eval --step 3", "eval --help=x", "eval --count=1",
+    "eval --profile=1", "x --help", "match a b c --help", "eval --steps x --help", "eval --steps --help",
+    "eval --steps", "eval --steps -- 3", "eval -3", "eval -e -3", "eval --steps -3", "eval --steps=-3", "eval --steps=",
+    "eval --steps ''", "eval --steps ' 3'", "eval --steps 0x3", "eval --count --count", "eval --explain --explain",
+    "eval - -", "eval -e", "eval add.rec add.trm -e z", "eval --strict", "eval --whole add.rec", "eval --test",
+    "--steps 3", "--explain", "serve", "serve -", "serve - -", "serve -e z add.rec", "serve --limit-status add.rec",
+    "serve --stuck add.rec", "serve --progress add.rec", "trace", "trace - -", "trace -e z add.rec",
+    "trace --memo 0 add.rec", "trace --stuck add.rec", "trace --profile add.rec", "trace --width 2 add.rec",
+    "trace --width x add.rec", "trace --last 1073741825 add.rec", "trace --first -1 add.rec", "trace --rule 3 add.rec",
+    "trace --rule 3:5:7 add.rec", "trace --rule 0:1 add.rec", "trace --rule 3: add.rec", "trace --rule x add.rec",
+    "trace --rule 3:5 --rule 4:5 add.rec", "share --nodes 5", "share --dot --nodes 0", "share --indent 2",
+    "share --limit-annotations", "aterm --dot", "aterm --indent 65", "aterm --indent", "aterm --indent -1", "check",
+    "check - -", "check --format add.rec", "check --format xml add.rec", "check --format json --format json add.rec",
+    "help S12", "help s5", "help S5 x", "uses --format json", "match -7", "make -7 []", "make a -7", "match --test a --test",
+    "match --limit-status a", "uses - -", "uses a b", "uses --at 3", "uses --at 3:5:7", "uses --at 0:1", "uses --at x:1",
+    "uses --at 3:5 --at 4:5", "uses --explain", "uses --rule 3:5", "join", "join - -", "join --explain add.rec",
+    "eval --join", "eval --join -", "eval --join - add.rec -", "check --join - -", "serve --join add.rec add.rec",
+    "check --join add.rec --format gnu add.rec", "check --explain --join add.rec add.rec",
+)
+# Words, others that do the same, and the text on standard input.
+EQUAL = (
+    ("eval --steps +3", "eval --steps 3", "examples/add.rec"),
+    ("eval --steps 0003", "eval --steps 3", "examples/add.rec"),
+    ("", "eval", "examples/add.rec"),
+    ("eval --", "eval", "examples/add.rec"),
+    ("eval -", "eval", "examples/add.rec"),
+    ("aterm -", "aterm", "examples/add.trm"),
+    ("share -", "share", "examples/add.trm"),
+    ("match '<list>' -", "match '<list>'", "examples/add.trm"),
+    ("eval add.rec -- add.trm", "eval add.rec add.trm", "examples/add.trm"),
+    ("eval add.rec -", "eval add.rec add.trm", "examples/add.trm"),
+    ("eval -e 'plus(z,s(z))' add.rec", "eval add.rec add.trm", "examples/add.trm"),
+    ("serve add.rec -", "serve add.rec", "examples/add.trm"),
+    ("serve - add.trm", "serve add.rec add.trm", "examples/add.rec"),
+    ("trace -", "trace add.rec", "examples/add.rec"),
+    ("trace add.rec -", "trace add.rec add.trm", "examples/add.trm"),
+    ("uses -", "uses", "examples/add.rec"),
+    ("uses --at=07:+3", "uses --at 7:3", "examples/add.rec"),
+    ("-V", "--version", "examples/add.rec"),
+)
+NO_FILE = (4, "", "recw: read failed\n")
+NO_PATTERN = (1, "!pattern A\n", "recw: pattern A at byte 0\n")
+# Words that name a file or a pattern, with a text on standard input and what is left.
+NAMES = (
+    ("eval -- --count", "", NO_FILE),
+    ("eval ./-", "", NO_FILE),
+    ("eval help", "", NO_FILE),
+    ("eval ''", "", NO_FILE),
+    ("match -", "a", NO_PATTERN),
+    ("match -- -", "a", NO_PATTERN),
+    ("match ''", "a", NO_PATTERN),
+    ("match help", "help", (0, "yes\n", "")),
+    ("match -- -7", "-7", (0, "yes\n", "")),
+    ("match ' -7'", "-7", (0, "yes\n", "")),
+    ("make -- -7 []", "", (0, "-7\n", "")),
+)
+
+
+def check_words():
+    """What the program makes of words."""
+    for words, command in HELPS:
+        same(f"words: {words}", (0, help_of(*command.split()), ""), obeyed(words))
+    for words in WRONG:
+        status, output, told = obeyed(words)
+        same(f"words: {words}", (2, "", "error: "), (status, output, told[:7]))
+    for words, others, name in EQUAL:
+        same(f"words: {words}", obeyed(others, text_of(name)), obeyed(words, text_of(name)))
+    for words, text, wanted in NAMES:
+        same(f"words: {words}", wanted, obeyed(words, text))
+    for words in ([b"\xff"], [b"eval", b"\xff.rec"], [b"--help", b"\xff"]):
+        ran = subprocess.run([program(), *words], capture_output=True, stdin=subprocess.DEVNULL, check=False)
+        same(f"words: {words}", (2, b"", b"error: "), (ran.returncode, ran.stdout, ran.stderr[:7]))
 
 
 def check_version():
@@ -76,20 +195,7 @@ def check_width():
     same("manual: rows of the table on a line each", True, len(wanted) >= 8)
 
 
-def listed(options):
-    """The rows that tables of options have."""
-    return [(it.name, it.value, it.default or ("none" if it.value else "off")) for it in options]
-
-
-def check_manual(names, options):
-    page = text_of("recw.1")
-    synopsis = page.split(".Sh SYNOPSIS")[1].split(".Sh ")[0]
-    same("manual: commands of the synopsis", names, re.findall(r"^\.Cm (\w+)", synopsis, re.M))
-    same("manual: commands", names, re.findall(r"^\.It Cm (\w+)", page, re.M))
-    row = r"^\.It Fl -([\w-]+)(?: Ar ([\w:]+))? Ta (\S+) Ta ."
-    rows = [(f"--{it[0]}", it[1], it[2]) for it in re.findall(row, page, re.M)]
-    own = [it for name in ("trace", "share") for it in options[name] if it.name in OWN[name]]
-    same("manual: options", listed([*options["eval"], *own]), rows)
+def check_page():
     check_width()
     if shutil.which("mandoc"):
         same("manual: mandoc -Tlint", "", run(["mandoc", "-Tlint", f"{TOP}/recw.1"]))
@@ -97,127 +203,23 @@ def check_manual(names, options):
         print("not tried: mandoc is not here")
 
 
-def check_bash(names, options):
-    script = """
-        source "$0/completions/recw.bash"
-        COMP_WORDS=("$@"); COMP_CWORD=$(($# - 1)); _recw; printf '%s\\n' "${COMPREPLY[@]}"
-    """
-
-    def offered(*words):
-        return run(["bash", "-c", script, TOP, *words], cwd=f"{TOP}/examples").split()
-
-    same("bash: commands", sorted(names), sorted(offered("recw", "")))
-    same("bash: commands of help", sorted([*names, "refusals"]), sorted(offered("recw", "help", "")))
-    same("bash: one command", ["share"], offered("recw", "sh"))
-    for name in names:
-        wanted = ["--help", *[it.name for it in options[name]]]
-        same(f"bash: options of {name}", sorted(wanted), sorted(offered("recw", name, "-")))
-    with_files = (["eval"], ["eval", "q.rec"], ["eval", "--count"], ["aterm"], ["share"], ["match", "x"])
-    with_more = (["check"], ["check", "--strict", "a", "b"], ["trace", "a"], ["trace", "--rule", "3", ":", "5", "a"])
-    for words in (*with_files, *with_more):
-        same(f"bash: files behind {words}", ["add.rec", "add.trm"], offered("recw", *words, "add"))
-    with_none = (["match"], ["make"], ["make", "x"], ["aterm", "x"], ["eval", "a", "b"], ["share", "--nodes"])
-    for words in (*with_none, ["trace", "a", "b"]):
-        same(f"bash: no files behind {words}", [], offered("recw", *words, "add"))
-    for option in options["eval"]:
-        wanted = [] if option.value else ["add.rec", "add.trm"]
-        same(f"bash: behind {option.name}", wanted, offered("recw", "eval", option.name, "add"))
-        if option.value:
-            for value in (["3"], ["=", "3"]):
-                words = ["recw", "eval", option.name, *value]
-                same(f"bash: behind {words}", ["add.rec", "add.trm"], offered(*words, "add"))
-                same(f"bash: third file behind {words}", [], offered(*words, "a", "b", "add"))
-
-
-def check_fish(names, abouts, options):
-    def offered(line):
-        script = 'source $argv[1]/completions/recw.fish; complete -C "$argv[2]"'
-        lines = run(["fish", "--no-config", "-c", script, TOP, line], cwd=f"{TOP}/examples")
-        return sorted(tuple(it.split("\t")) for it in lines.splitlines())
-
-    help_option = ("--help", "Print help")
-    same("fish: commands", sorted(abouts.items()), offered("recw "))
-    refusals = ("refusals", "Print what each refusal means")
-    same("fish: commands of help", sorted([*abouts.items(), refusals]), offered("recw help "))
-    for name in names:
-        wanted = [(it.name, it.about) for it in options[name]]
-        same(f"fish: options of {name}", sorted([help_option, *wanted]), offered(f"recw {name} --"))
-    lines = ("eval", "eval --count", "trace", "trace --whole a", "aterm", "share", "match x", "check", "check a")
-    for line in lines:
-        same(f"fish: files behind {line}", [("add.rec",), ("add.trm",)], offered(f"recw {line} add"))
-    for line in ("make", *[f"eval {it.name}" for it in options["eval"] if it.value]):
-        same(f"fish: no files behind {line}", [], offered(f"recw {line} add"))
-
-
-def escaped(value):
-    """A value's name as zsh reads it."""
-    return value.replace(":", "\\:")
-
-
-def check_zsh(abouts, options):
-    script = """
-        _describe() { print -rl -- "${(@P)4}" }
-        _arguments() { print -rl -- "$@" }
-        complete() { source $file }
-        file=$1 words=("${@:2}") CURRENT=$(($# - 1)); complete
-    """
-
-    def offered(*words):
-        file = f"{TOP}/completions/_recw"
-        return run(["zsh", "--no-rcs", "-c", script, "zsh", file, *words]).splitlines()
-
-    helps = ["(- *)-h[Print help]", "(- *)--help[Print help]"]
-    listed = [f"{name}:{about}" for name, about in abouts.items()]
-    versions = ["(- *)-V[Print version]", "(- *)--version[Print version]"]
-    same("zsh: commands", [*listed, *helps, *versions], offered("recw", ""))
-    refusals = "refusals:Print what each refusal means"
-    same("zsh: commands of help", [*listed, refusals], offered("recw", "help", ""))
-    for name in abouts:
-        own = [
-            f"{'*' if 'several' in it.about else ''}{it.name}=[{it.about}]:{escaped(it.value)}: "
-            if it.value
-            else f"{it.name}[{it.about}]"
-            for it in options[name]
-        ]
-        found = [it for it in offered("recw", name, "-") if "-" in it.partition("[")[0]]
-        same(f"zsh: options of {name}", [*helps, *own] if name != "help" else [], found)
+def check_help():
+    """Compares what the program prints with the sources, which tests/options.py compares with all else."""
+    known = options.commands()
+    abouts = {it.name: it.about for it in known}
+    same("commands of the help", {**abouts, options.HELP_COMMAND[0]: options.HELP_COMMAND[1]}, commands())
+    for it in known:
+        wanted = [(row.name, row.value, row.about, row.default) for row in it.options]
+        same(f"options of {it.name}", sorted(wanted), sorted(options_of(it.name)))
 
 
 def main():
-    abouts = commands()
-    names = list(abouts)
-    same("commands", True, {"eval", "help"} <= set(names))
-    options = {name: options_of(name) if name != "help" else [] for name in names}
-    same("options of eval", True, len(options["eval"]) > 1)
-    shared = [it for it in options["eval"] if it.name == "--explain"]
-    for name in names:
-        if name == "serve":
-            alone = ("--term", "--limit-annotations", "--limit-status", "--stuck", "--profile", "--progress")
-            both = [it for it in options["eval"] if it.name not in alone]
-            # a process that stays has a bound of its own on calls that wait
-            both = [it._replace(default="1000000") if it.name == "--depth" else it for it in both]
-            same("options of serve", both, options[name])
-        elif name == "check":
-            same("options of check", ["--strict"], [it.name for it in options[name]])
-        elif name not in ("eval", "help"):
-            both = [it for it in options["eval"] if name == "trace" and it.name in ("--steps", "--cells")]
-            own = OWN.get(name, [])
-            same(f"own options of {name}", own, [it.name for it in options[name] if it.name in own])
-            rest = [it for it in options[name] if it.name not in own]
-            same(f"other options of {name}", [*both, *shared], rest)
+    check_help()
     check_refusals()
+    check_codes()
+    check_words()
     check_version()
-    check_manual(names, options)
-    shells = {
-        "bash": lambda: check_bash(names, options),
-        "fish": lambda: check_fish(names, abouts, options),
-        "zsh": lambda: check_zsh(abouts, options),
-    }
-    for shell, check in shells.items():
-        if shutil.which(shell):
-            check()
-        else:
-            print(f"not tried: {shell} is not here")
+    check_page()
     done()
 
 

@@ -13,10 +13,11 @@
 | program | folders, missing and endless files, full devices, closed pipes, signals |
 | breadth | texts of great breadth, for each call that may want memory |
 | errors | each error of a read and of a write |
+| streams | each read and each write of evaluations, reports, traces, conversations, checks and runs on terms fails |
 | memory | each request for memory of the program |
 | crates | each request for memory of single calls, by the program of crates/hostile; that their blocks go back |
 
-The last line is `N passed, M failed`. The last three parts trace the program, for which they need Linux on x86-64;
+The last line is `N passed, M failed`. The last four parts trace the program, for which they need Linux on x86-64;
 their runs stand side by side on the processors that this process may use.
 """
 
@@ -33,7 +34,7 @@ from common import FAILURES, rows, text_of
 from depth import try_depth
 from memory import try_crates, try_memory
 from refuse import is_allowed
-from streams import try_files, try_program
+from streams import try_files, try_program, try_streams
 
 MEMOS = (0, 1, 65536)
 RECLAIMS = (1, 262144)
@@ -127,6 +128,7 @@ PARTS = {
     "program": try_program,
     "breadth": try_breadth,
     "errors": try_errors,
+    "streams": try_streams,
     "memory": try_memory,
     "crates": try_crates,
 }
@@ -136,7 +138,7 @@ def lacks(part):
     """What a part needs and does not have here, if anything."""
     if part == "files" and not shutil.which("strace"):
         return "strace is not here"
-    if part in ("errors", "memory", "crates") and not is_allowed():
+    if part in ("errors", "streams", "memory", "crates") and not is_allowed():
         return "no program can be traced here"
     return None
 

@@ -1,10 +1,13 @@
 #!/usr/bin/env -S python3 -B
-"""Compares docs/MEANING.md with the definitions that the public contracts reach.
+"""Checks the definitions that public contracts reach: meaning.py [--list | --write].
 
-What a reader has to believe are the definitions that the clauses of public functions cite, and those that these cite
-in turn. docs/MEANING.md has to name each file that the runs of the program reach, and none that is not there or that
-no public contract reaches; the files that none reaches, and only these, stand in specs/Inner. With --list each file is
-printed with how it is reached.
+A reader has to believe the definitions that the clauses of public functions cite, and those that these cite in turn.
+Each of them has to have a comment: above it or above its paragraph, or in a list of the file's names in a comment.
+tests/meaning.txt has the number of definitions without one for each file that still has some; this number may only
+fall, and --write renews it and the table of docs/MEANING.md. The table of docs/MEANING.md has to name each file with such definitions: those that the
+runs of the program reach in one column, all others in the next one. The files that no public contract reaches, and
+only these, are in specs/Inner. With --list each file is printed with how it is reached, and each definition without a
+comment.
 """
 
 import collections
@@ -12,12 +15,12 @@ import glob
 import re
 import sys
 
-from common import TOP, done, same, text_of
+from common import TOP, done, quoted, same, tables, text_of
 
 # the runs of the program, whose contracts are the headline
 RUNS = {
-    "rec_run": {"run", "run_at", "run_in"},
-    "rx_run": {"run_aterm_at", "run_share_at", "run_match_at", "run_make_at"},
+    "rec_run": {"run_given", "run_over", "run", "run_at"},
+    "rx_run": {"print_term", "share_term", "match_term", "make_term"},
 }
 # the crates of tests are no libraries
 TESTS = {"store_rows"}
@@ -28,9 +31,10 @@ PUBLIC = re.compile(r"^\s*pub (?:const )?(?:unsafe )?(?:extern \"C\" )?fn (\w+)"
 # the methods of a trait are as public as the trait
 TRAIT = re.compile(r"^(?:pub trait|(?:unsafe )?impl\b.* for )\b")
 METHOD = re.compile(r"^ {4}(?:unsafe )?fn (\w+)")
+LISTED = "tests/meaning.txt"
 FACT = re.compile(r"^\s*pub ghost \w+:")
 # the head of a function ends where its body begins
-BODY = re.compile(r"^\s*\{\s*\}?\s*$|^.*\)\s*(?:->\s*[^{]*)?\{\s*$|;\s*$")
+BODY = re.compile(r"^\s*\{\s*\}?\s*$|^.*\)\s*(?:->\s*[^{]*)?\{\s*$|^.*;\s*$")
 
 
 def lines_joined(text):
@@ -137,7 +141,7 @@ def public_clauses(wanted):
 
 
 def reached(files, first):
-    """The files of the words that are cited, in turn."""
+    """The words that are cited, in turn, each with its file."""
     seen, due = set(), list(first)
     while due:
         path, word = due.pop()
@@ -153,35 +157,103 @@ def reached(files, first):
                 due.append((path, other))
             elif other.partition(".")[0] in file.words:
                 due.append((path, other.partition(".")[0]))
-    return {path for path, _ in seen}
+    return seen
+
+
+def uncommented(path):
+    """The definitions of a file that have no comment, neither above their paragraph nor by their name."""
+    lines = text_of(path).splitlines()
+    named = set(re.findall(r"[^\s,;:.`()]+", " ".join(it[2:] for it in lines if it.startswith("--"))))
+    found, explained = {}, False
+    for line in lines:
+        if not line or line.startswith("--"):
+            explained = bool(line)
+        elif not line[0].isspace() and not re.match(r"(?:pub )?(?:use|mod) ", line):
+            item = ITEM.match(line)
+            if item and item[1] not in found:
+                found[item[1]] = explained or item[1] in named
+    return {it for it, explained in found.items() if not explained}
+
+
+def without_comment(files, words):
+    """For each file its reached definitions without a comment."""
+    found = {}
+    for path in files:
+        bare = {word for it, word in words if it == path and word in files[path].words} & uncommented(path)
+        if bare:
+            found[path] = sorted(bare)
+    return found
+
+
+def allowed():
+    """How many definitions of a file may still be without a comment."""
+    rows = (it.split() for it in text_of(LISTED).splitlines() if it and not it.startswith("#"))
+    return {path: int(count) for path, count in rows}
+
+
+def write(bare):
+    head = "# Files with definitions that public contracts reach and that have no comment, with their number. It may only"
+    with open(f"{TOP}/{LISTED}", "w", encoding="utf-8") as file:
+        file.write(f"{head}\n# fall; `tests/meaning.py --write` renews this list.\n")
+        file.writelines(f"{path} {len(words)}\n" for path, words in sorted(bare.items()))
+
+
+def write_table(runs, others):
+    """Puts these files into the table of docs/MEANING.md, by its crates in their order."""
+    text = text_of("docs/MEANING.md")
+    for line in re.findall(r"^\| `\w+` \|.*$", text[text.index("| Crate |") :], re.M):
+        crate = quoted(line)[0]
+        cells = (", ".join(f"`{it}`" for it in sorted(names_in(crate, files))) for files in (runs, others))
+        text = text.replace(line, f"| `{crate}` | " + " | ".join(cells) + " |")
+    with open(f"{TOP}/docs/MEANING.md", "w", encoding="utf-8") as file:
+        file.write(text.replace("|  |", "| |"))
+
+
+def names_in(crate, files):
+    """The names of those of these files that are of a crate."""
+    folder = f"crates/{crate}/specs/"
+    return {it[len(folder) : -len(".antt")] for it in files if it.startswith(folder)}
 
 
 def named_files():
-    """The files that docs/MEANING.md names: a name without a folder stands in that of the name before it."""
-    folder = ""
-    for name in re.findall(r"`([\w/]*\w\.antt)`", text_of("docs/MEANING.md")):
-        if "/" in name:
-            folder = name.rpartition("/")[0]
-        yield f"{folder}/{name.rpartition('/')[2]}"
+    """The files of the table of docs/MEANING.md: those that runs reach, and those that other public contracts do."""
+    columns = set(), set()
+    for head, rows in tables(text_of("docs/MEANING.md")):
+        if head[0] == "Crate":
+            for crate, *cells in rows:
+                for column, cell in zip(columns, cells):
+                    column |= {f"crates/{quoted(crate)[0]}/specs/{it}.antt" for it in quoted(cell)}
+    return columns
 
 
 def main():
     files = spec_files()
-    runs = reached(files, public_clauses(RUNS))
-    public = reached(files, public_clauses(None))
-    named = set(named_files())
+    runs = {path for path, _ in reached(files, public_clauses(RUNS))}
+    words = reached(files, public_clauses(None))
+    public = {path for path, _ in words}
+    bare = without_comment(files, words)
     if sys.argv[1:] == ["--list"]:
         for path in files:
             kind = "run" if path in runs else "public" if path in public else "inner"
-            print(f"{kind:<7} {'named' if path in named else '':<6} {len(text_of(path).splitlines()):>4} {path}")
+            print(f"{kind:<7} {len(text_of(path).splitlines()):>4} {path} {' '.join(bare.get(path, ()))}".rstrip())
         return
-    same("files that docs/MEANING.md names and that are not there", [], sorted(named - set(files)))
-    same("files that the runs reach and that it does not name", [], sorted(runs - named))
-    same("files that it names and no public contract reaches", [], sorted(named - public))
+    others = {it for it in public - runs if it.split("/")[1] not in TESTS}
+    if sys.argv[1:] == ["--write"]:
+        write(bare)
+        write_table(runs, others)
+        return
+    named_for_runs, named_for_others = named_files()
+    same("files that runs reach, in docs/MEANING.md", sorted(runs), sorted(named_for_runs))
+    same("files that other public contracts reach, in docs/MEANING.md", sorted(others), sorted(named_for_others))
     inner = {it for it in files if "/Inner/" in it}
     beside = {it for it in set(files) - public - inner if it.split("/")[1] not in TESTS}
     same("files outside of specs/Inner that no public contract reaches", [], sorted(beside))
     same("files of specs/Inner that a public contract reaches", [], sorted(inner & public))
+    most = allowed()
+    for path, names in bare.items():
+        if len(names) > most.get(path, 0):
+            same(f"definitions without a comment: {path}", most.get(path, 0), names)
+    same(f"files of {LISTED} that are not there", [], sorted(set(most) - set(files)))
     done()
 
 

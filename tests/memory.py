@@ -16,7 +16,7 @@ from refuse import REQUESTS, answer, blocks
 SHARE = 16
 # The program that makes one call of a crate.
 CALLER = f"{TOP}/crates/hostile/out/hostile"
-# Other runs: the words, and the output that docs/FORMATS.md gives.
+# Other runs: the words, and the output that docs/reference gives.
 OTHERS = (
     (["aterm", "term"], "f ( a , [ 1 , -007 ] ) { b }", "f(a,[1,-7]){b}\n"),
     (["aterm", "--indent", "2", "term"], "f(a,\"b\"){[]}", 'f(\n  a,\n  "b"\n){\n  []\n}\n'),
@@ -40,6 +40,8 @@ OTHERS = (
         text_of("examples/add.rec"),
         "0:0: plus(s...\n12:3: s(plus...\n... 1 more\n11:3: s(s(s(...\ns(s(s(z)))\n",
     ),
+    (["eval", "--bytes", "10", "term"], text_of("examples/add.rec"), "s(s(s(z)))\n"),
+    (["eval", "--bytes", "9", "term"], text_of("examples/add.rec"), "!bytes 9\n"),
     (["match", "f(<int>,<list>)", "term"], "f(1,2,3)", "yes\n1\n[2,3]\n"),
     (["match", "f(<int>,<list>)", "term"], "f(1)", "yes\n1\n[]\n"),
     (["match", "f(<int>,<list>)", "term"], "f(a)", "no\n"),
@@ -59,9 +61,9 @@ STUCK = (
 # anything is evaluated that is nothing.
 PROFILED = ["eval", "--profile", "--memo", "0", "rows/cond.rec"], "s(z)\n"
 PROFILE = re.compile(
-    r"(profile: [678]:3: [01] matched, [01] fired, [01] failed\n){3}"
-    r"profile: steps: [0-3] spent, [0-3] matched, 0 remembered by 0 results\n"
-    r"profile: cells: \d+ made, \d+ held at most\nprofile: reclaims: 0\n"
+    r"(profile: [678]:3: [01] matched, [01] applied, [01] failed\n){3}"
+    r"profile: steps: [0-3] spent, [0-3] matched, 0 saved by 0 memo hits\n"
+    r"profile: cells: \d+ made, \d+ in use at most\nprofile: garbage collections: 0\n"
 )
 NO_PROFILE = "profile: out of memory\n"
 # What a bank has behind a call, where the protected term and its 14 parts alone are left: crates/hostile/src/banks.rt
@@ -76,7 +78,7 @@ BANKS = {
     "hole": (["the same cells"], ["<1>", *ROOTS]),
     "annotated": (["the same cells"], ["1{b}", *ROOTS]),
     "symbol": (["the same cells"], ["the same symbol", *ROOTS]),
-    "reserve": (["the same cells"], ["room for as many", *ROOTS]),
+    "reserve": (["the same cells"], ["room for them", *ROOTS]),
 }
 OTHER_CALLS = {
     "shared new": ([], ["0 cells"]),
@@ -84,7 +86,7 @@ OTHER_CALLS = {
     "store intern": (["without the name"], ["the known symbol", "the new symbol"]),
     "store arena": ([], ["0 cells"]),
     "store take": (["the same cells"], ["one cell more"]),
-    "store reserve": ([], ["the same cells", "room for as many"]),
+    "store reserve": ([], ["the same cells", "room for them"]),
     "store rehash": (["the same chains"], ["the same cells", "64 chains"]),
     "text read": ([], ["[kept]", "f(g(a),[1,<7>]){b}", "0 cells kept"]),
     "text write": ([], ["a beginning", "f(g(a),[1,<7>]){b}"]),

@@ -25,10 +25,10 @@ from traces import HEAD, Over, Specification, place_of, with_conditions, write
 
 COUNT = 300
 BUDGETS = (0, 1, 2, 3, 5, 8, 12, 16)
-RULE = re.compile(r"profile: (\d+):(\d+): (\d+) matched, (\d+) fired, (\d+) failed")
-STEPS = re.compile(r"profile: steps: (\d+) spent, (\d+) matched, (\d+) remembered by (\d+) results")
-CELLS = re.compile(r"profile: cells: (\d+) made, (\d+) held at most")
-RECLAIMS = re.compile(r"profile: reclaims: (\d+)")
+RULE = re.compile(r"profile: (\d+):(\d+): (\d+) matched, (\d+) applied, (\d+) failed")
+STEPS = re.compile(r"profile: steps: (\d+) spent, (\d+) matched, (\d+) saved by (\d+) memo hits")
+CELLS = re.compile(r"profile: cells: (\d+) made, (\d+) in use at most")
+RECLAIMS = re.compile(r"profile: garbage collections: (\d+)")
 SHOWN = re.compile(r"\rrecw: term (\d+): ([\d,]+) of ([\d,]+) steps, ([\d,]+) cells\x1b\[K")
 WIPED = "\r\x1b[K"
 # Two rules in turn without an end behind a term that has none, and a number that is the sum of the two before it.
@@ -238,10 +238,11 @@ def before_pipe(*words):
     return ran.returncode, ran.stdout.decode(), ran.stderr.decode()
 
 
-def before_terminal(*words):
-    """The same before a terminal."""
+def before_terminal(*words, columns=80):
+    """The same before a terminal of so many columns."""
     master, slave = pty.openpty()
-    with subprocess.Popen([program(), *words], stdout=subprocess.PIPE, stderr=slave) as child:
+    how = {"stdout": subprocess.PIPE, "stderr": slave, "env": {**os.environ, "COLUMNS": str(columns)}}
+    with subprocess.Popen([program(), *words], **how) as child:
         os.close(slave)
         shown = b""
         while True:
@@ -289,6 +290,9 @@ def try_progress(at):
     status, values, shown = before_terminal(*words)
     check("a long run before a terminal", due, (status, values))
     check_shown("a terminal", shown, time.monotonic() - begin, steps)
+    status, values, shown = before_terminal(*words, columns=30)
+    check("a long run before a narrow terminal", due, (status, values))
+    check("a narrow terminal: columns", {0, 29}, {len(it) for it in re.findall(r"\r([^\r]*)\x1b\[K", shown)})
     short = before_pipe("eval", "--progress", "add.rec", "add.trm")
     check("a short run", (0, "s(s(s(z)))\ns(z)\n", ""), short)
     short = before_terminal("eval", "--steps", "1000", file)

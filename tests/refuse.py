@@ -199,14 +199,22 @@ def count_blocks(run):
     return counts
 
 
-def fail_once(run, name, number):
-    """Lets the program run to its end, where the first call of a function fails; how often it failed."""
+def fail_once(run, name, number, which=1):
+    """Lets the program run to its end, where one call of a function fails, by its place among them, from 1.
+
+    The file that the call was for; None if the program made fewer calls.
+    """
     run.catch((name,))
+    for _ in range(1, which):
+        if run.caught() is None:
+            return None
+        run.call(name)
     if run.caught() is None:
-        return 0
+        return None
+    file = run.registers[RDI]
     run.catch(())
     run.fail(name, number)
-    return run.caught() is None
+    return file if run.caught() is None else None
 
 
 def followed(words, cwd, follow):
@@ -234,6 +242,9 @@ def blocks(words, cwd):
     return followed(words, cwd, count_blocks)
 
 
-def failing(words, cwd, name, number):
-    """The exit status, both outputs, and whether a first read or write failed by an error of this number."""
-    return followed(words, cwd, lambda run: int(fail_once(run, name, number)))
+def failing(words, cwd, name, number, which=1):
+    """The exit status, both outputs, and the file at which a read or write failed by an error of this number.
+
+    Which one of them is its place among all, from 1; None if there are fewer.
+    """
+    return followed(words, cwd, lambda run: fail_once(run, name, number, which))

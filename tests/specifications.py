@@ -23,11 +23,11 @@ def term(chance, sort, symbols, variables, depth):
     return f"{name}({','.join(arguments)})" if arguments else name
 
 
-def rule(chance):
-    """A rule, and conditions now and then."""
+def rule(chance, inside=None):
+    """A rule, and conditions now and then; its left-hand side has symbols of `inside`, constructors if it is missing."""
     name = chance.choice([*RULED])
     sorts, sort = RULED[name]
-    left = f"{name}({','.join(term(chance, it, BUILT, VARIABLES, 2) for it in sorts)})"
+    left = f"{name}({','.join(term(chance, it, inside or BUILT, VARIABLES, 2) for it in sorts)})"
     there = {it: of for it, of in VARIABLES.items() if it in left}
     right = term(chance, sort, ALL, there, chance.choice([1, 2, 3]))
     conditions = []
@@ -49,8 +49,8 @@ def spoilt(chance, text):
     return text[:at] + chance.choice(PIECES) + text[at + chance.randrange(4) :]
 
 
-def specification(chance):
-    rules = [rule(chance) for _ in range(chance.randrange(1, 9))]
+def specification(chance, inside=None):
+    rules = [rule(chance, inside) for _ in range(chance.randrange(1, 9))]
     terms = [f"  {term(chance, chance.choice(SORTS), ALL, {}, 4)}" for _ in range(chance.randrange(4))]
     variables = ["  X Y : A", "  V : B"]
     lines = ["REC-SPEC R", "SORTS A B", "CONS", *declared(BUILT), "OPNS", *declared(RULED), "VARS", *variables]

@@ -1,10 +1,12 @@
 #!/bin/sh
-# Tries the script ./recw on a small tree with stand-ins for rt and the prover beside it, so that
-# nothing is proved: what it says, when it builds, and how it ends. Takes some seconds.
+# Tests the scripts ./recw and tools/prove on small trees with stand-ins for rt, the prover and the
+# program, so that nothing is proved: their messages, when they build or unpack, and how they end. Takes
+# about 20 seconds.
 set -eu
 
 top=$(dirname -- "$(dirname -- "$(readlink -f -- "$0")")")
 room=$(mktemp -d)
+export XDG_CACHE_HOME="$room/cache"
 trap 'rm -rf -- "$room"' EXIT
 chmod 755 "$room"
 failures=0
@@ -13,8 +15,9 @@ failures=0
 # or for a crate `slow.CRATE`, and end as the file `status` says.
 make_tree() {
     tree=$room/$1
-    mkdir -p "$tree/bin" "$tree/crates/low/src" "$tree/crates/recw/src" "$tree/crates/other/src"
+    mkdir -p "$tree/bin" "$tree/tools" "$tree/crates/low/src" "$tree/crates/recw/src" "$tree/crates/other/src"
     cp "$top/recw" "$tree/recw"
+    cp "$top/tools/prove" "$top/tools/sources.sh" "$tree/tools"
     cat >"$tree/crates.txt" <<'END'
 # comment: of no account
 recw opt_level=1: low clap
@@ -311,12 +314,12 @@ same 'a build that broke off: runs of the prover' 'recw build --jobs N' "$(runs)
 make_tree bare
 status=0
 mkdir "$room/few"
-for command in sh readlink dirname awk find head wc cat nproc mkdir touch flock; do
+for command in sh readlink dirname awk sed find head wc cat nproc mkdir touch flock; do
     ln -s "$(command -v "$command")" "$room/few/$command"
 done
 PATH=$room/few "$tree/recw" >"$room/out" 2>"$room/err" </dev/null || status=$?
 same 'no rt: status' 69 "$status"
-same 'no rt: line' 'recw: there is no command rt, by which the program is to be built first' "$(cat "$room/err")"
+same 'no rt: line' 'recw: there is no command rt, which is needed to prove and build the program' "$(cat "$room/err")"
 
 # Root may write anywhere, so it tries this as nobody.
 start_as_reader() {
@@ -330,7 +333,7 @@ make_tree reader
 find "$tree" -type d -exec chmod a-w {} +
 start_as_reader
 same 'read-only: status' 73 "$status"
-same 'read-only: line' "recw: cannot write to $tree/crates/low/out, where the program is to be built first" \
+same 'read-only: line' "recw: cannot write to $tree/crates/low/out, which is needed to prove and build the program" \
     "$(cat "$room/err")"
 find "$tree" -type d -exec chmod u+w {} +
 start
@@ -340,6 +343,211 @@ start_as_reader y
 program_ran 'read-only, but built' y
 same 'read-only, but built: lines' '' "$(cat "$room/err")"
 find "$tree" -type d -exec chmod u+w {} +
+
+# A tree with a release: a program that prints other words than the one that is built.
+sources_of_tree() {
+    sh -c 'top=$1; . "$1/tools/sources.sh"; sources_hash recw' sh "$tree"
+}
+
+sum_of() {
+    sha256sum <"$1" | cut -d ' ' -f 1
+}
+
+make_release() {
+    make_tree "$1"
+    mkdir "$tree/release"
+    # what is unpacked is asked for its version first
+    cat >"$tree/program" <<'END'
+#!/bin/sh
+[ "$1" != --version ] || exit 0
+echo "packed: $*"
+cat
+exit 3
+END
+    pack
+}
+
+pack() {
+    gzip -9n <"$tree/program" >"$tree/release/recw.gz"
+    cat >"$tree/release/manifest" <<END
+version 0.1.0
+rt this kit
+recw.sources $(sources_of_tree)
+recw.file $(sum_of "$tree/program")
+recw.packed $(sum_of "$tree/release/recw.gz")
+END
+}
+
+# Runs ./recw with neither rt nor the prover.
+start_without_kit() {
+    mv "$tree/bin" "$tree/no-bin"
+    PATH=/usr/sbin:/usr/bin:/sbin:/bin start "$@"
+    mv "$tree/no-bin" "$tree/bin"
+}
+
+packed_ran() {
+    same "$1: status" 3 "$status"
+    same "$1: output" "packed: $2
+input" "$(cat "$room/out")"
+    same "$1: lines" '' "$(cat "$room/err")"
+    same "$1: runs of the prover" '' "$(runs)"
+}
+
+make_release 'release here'
+start_without_kit eval 'a  b'
+packed_ran 'the program of release/' 'eval a  b'
+unpacked=$tree/crates/recw/out/release/recw
+first=$(stat -c %i "$unpacked")
+start x
+packed_ran 'the program of release/, again' x
+start --which
+same 'the path of the program' "$unpacked" "$(cat "$room/out")"
+same 'it is unpacked once' "$first" "$(stat -c %i "$unpacked")"
+same 'nothing else is there' 'recw stamp' "$(cd "$tree/crates/recw/out/release" && echo *)"
+sleep 0.02
+touch "$tree/crates/low/src/lib.rt"
+start x
+packed_ran 'a source was touched' x
+echo edited >"$tree/crates/other/src/lib.rt"
+: >"$tree/crates/low/src/lib.rt~"
+: >"$tree/crates/low/src/.lib.rt.swp"
+start x
+packed_ran 'a crate that is not needed was edited, and an editor left files' x
+sleep 0.02
+printf '#!/bin/sh\necho changed\n' >"$unpacked"
+start x
+packed_ran 'the unpacked program was changed' x
+rm -r "$tree/crates/recw/out"
+"$tree/recw" one >"$room/one" 2>&1 </dev/null &
+start two
+wait "$!" || :
+packed_ran 'two at once, unpacked' two
+same 'two at once, unpacked: the other' 'packed: one' "$(cat "$room/one")"
+start --prove x
+same 'a word behind --prove: status' 2 "$status"
+
+sleep 0.02
+echo edited >"$tree/crates/low/src/lib.rt"
+start_without_kit
+same 'release, and a source was edited: status' 69 "$status"
+same 'release, and a source was edited: lines' "recw: the sources are not those of release/
+recw: there is no command rt, which is needed to prove and build the program" "$(cat "$room/err")"
+start
+program_ran 'release, and a source was edited' ''
+same 'release, and a source was edited: first lines' "recw: the sources are not those of release/
+recw: the program is proved and built first, in about N minutes; the log is $tree/crates/recw/out/build.log" \
+    "$(without_times "$room/err" | head -n 2)"
+same 'release, and a source was edited: runs of the prover' "$whole" "$(runs)"
+start --which
+same 'the path of the program that was built' "$tree/crates/recw/out/recw" "$(cat "$room/out")"
+start
+program_ran 'release, and a source was edited, again' ''
+same 'release, and a source was edited, again: lines' '' "$(cat "$room/err")"
+start --prove
+same 'proved of other sources: status' 0 "$status"
+built=$(sum_of "$tree/crates/recw/out/recw")
+same 'proved of other sources: lines' "recw: proved and built: crates/recw/out/recw has the hash $built
+recw: release/ was made from other sources, and its program has the hash $(sum_of "$tree/program")" "$(cat "$room/err")"
+sleep 0.02
+echo code >"$tree/crates/low/src/lib.rt"
+start x
+packed_ran 'the sources of release/ are back' x
+
+make_release 'release compared'
+start --prove
+same 'another program was proved: status' 70 "$status"
+same 'another program was proved: last lines' "recw: proved and built: crates/recw/out/recw has the hash $built
+recw: release/recw.gz holds another program: release/manifest has the hash $(sum_of "$tree/program")" \
+    "$(tail -n 2 "$room/err")"
+same 'another program was proved: runs of the prover' "$whole" "$(runs)"
+echo 'a later kit' >"$tree/version"
+start --prove
+same 'proved by another kit: line' 'recw: the kit here is a later kit, and that of release/ is this kit' \
+    "$(sed -n 2p "$room/err")"
+cp "$tree/crates/recw/out/recw" "$tree/program"
+pack
+start --prove
+same 'the same program was proved: status' 0 "$status"
+same 'the same program was proved: output' '' "$(cat "$room/out")"
+same 'the same program was proved: last line' 'recw: release/recw.gz holds the same program, byte for byte' \
+    "$(tail -n 1 "$room/err")"
+rm -r "$tree/release"
+start --prove
+same 'no release: status' 0 "$status"
+same 'no release: last line' 'recw: there is no release/ to compare it with' "$(tail -n 1 "$room/err")"
+
+# nothing is run whose hash is wrong
+make_release 'release changed'
+start
+wanted=$(sum_of "$tree/release/recw.gz")
+sleep 0.02
+printf X | dd of="$tree/release/recw.gz" bs=1 seek=30 conv=notrunc status=none
+start
+same 'the packed program was changed: status' 70 "$status"
+same 'the packed program was changed: output' '' "$(cat "$room/out")"
+same 'the packed program was changed: line' "recw: release/recw.gz is not run: \
+it has the hash $(sum_of "$tree/release/recw.gz"), release/manifest has $wanted" "$(cat "$room/err")"
+pack
+start
+packed_ran 'packed anew' ''
+printf '#!/bin/sh\necho worse\n' | gzip -9n >"$tree/release/recw.gz"
+sed -i "s/^recw.packed .*/recw.packed $(sum_of "$tree/release/recw.gz")/" "$tree/release/manifest"
+start
+same 'another program is packed: status' 70 "$status"
+same 'another program is packed: line' "recw: release/recw.gz is not run: the unpacked program has the hash \
+$(gzip -dc <"$tree/release/recw.gz" | sha256sum | cut -d ' ' -f 1), release/manifest has $(sum_of "$tree/program")" \
+    "$(cat "$room/err")"
+same 'another program is packed: nothing is left' 'recw stamp' "$(cd "$tree/crates/recw/out/release" && echo *)"
+
+make_release 'release reader'
+find "$tree" -type d -exec chmod a-w {} +
+# who reads it has a cache of their own
+mkdir -m 777 "$XDG_CACHE_HOME"
+start_as_reader x
+packed_ran 'read-only, unpacked into the cache' x
+unpacked=$(find "$XDG_CACHE_HOME" -name recw -type f)
+first=$(stat -c %i "$unpacked")
+start_as_reader y
+packed_ran 'read-only, again' y
+same 'read-only: it is unpacked once' "$first" "$(stat -c %i "$unpacked")"
+rm -r "$XDG_CACHE_HOME"
+touch "$XDG_CACHE_HOME"
+start_as_reader
+same 'no cache: status' 73 "$status"
+same 'no cache: line' "recw: cannot write to $tree/crates/recw/out/release or \
+$XDG_CACHE_HOME/recw/$(printf '%s' "$tree" | cksum | tr ' ' -), where the program is unpacked" "$(cat "$room/err")"
+find "$tree" -type d -exec chmod u+w {} +
+rm "$XDG_CACHE_HOME"
+
+# CI compares release/ with what was built
+check_release() {
+    status=0
+    PATH="$tree/bin:$PATH" python3 -B "$tree/packaging/release" --check >"$room/out" 2>"$room/err" || status=$?
+}
+if command -v python3 >/dev/null; then
+    make_release 'release checked'
+    mkdir "$tree/packaging"
+    cp "$top/packaging/release" "$top/packaging/released.py" "$tree/packaging"
+    check_release
+    same 'nothing was built: status' 0 "$status"
+    same 'nothing was built: line' 1 "$(grep -c '^not compared: recw, since crates/recw/out/recw was not built' "$room/out")"
+    mkdir -p "$tree/crates/recw/out"
+    cp "$tree/program" "$tree/crates/recw/out/recw"
+    check_release
+    same 'the same was built: status' 0 "$status"
+    same 'the same was built: line' 1 "$(grep -c '^release/recw.gz is crates/recw/out/recw, byte for byte' "$room/out")"
+    echo '# changed' >>"$tree/crates/recw/out/recw"
+    check_release
+    same 'another one was built: status' 1 "$status"
+    same 'another one was built: lines' "release: release/ is not current:
+  release/recw.gz has the hash $(sum_of "$tree/program"), and crates/recw/out/recw $(sum_of "$tree/crates/recw/out/recw")
+  renew release/ by packaging/release" "$(cat "$room/err")"
+    cp "$tree/program" "$tree/crates/recw/out/recw"
+    echo edited >"$tree/crates/low/src/lib.rt"
+    check_release
+    same 'other sources: status' 1 "$status"
+    same 'other sources: line' 1 "$(grep -c 'release/recw.gz was made from other sources' "$room/err")"
+fi
 
 [ "$failures" -eq 0 ] || exit 1
 echo "start.sh: all as wanted"

@@ -1,5 +1,6 @@
 """Files, pipes and signals that go wrong: each read and each write fails in turn, and what a system has besides."""
 
+import errno
 import os
 import pty
 import shutil
@@ -8,9 +9,12 @@ import subprocess
 import time
 import tty
 
-from attempts import EXAMPLES, NO_READ, NO_WRITE, check, recw, room, write_file
+from attempts import CLOSED, CLOSED_EXPLAINED, EXAMPLES, NO_READ, NO_WRITE, check, recw, room, write_file
+from checks import lines_of
 from common import program, text_of
 from conversations import INPUT, OUTPUT
+from memory import CALLS, PROFILED, STUCK
+from refuse import failing
 
 # More than the program keeps before it writes.
 LONG = f"[{','.join(['1'] * 100000)}]"
@@ -96,6 +100,65 @@ def try_files():
                     for file, text in files.items():
                         write_file(f"{at}/{file}", text_of(text) if text.startswith("examples/") else text)
                     count += refuse_in_turn(at, words, f"{at}/{name}", (call, how, told), output, end)
+    return count
+
+
+# What is tried with each read and each write failing in turn, where a program can be traced: the words, the output, what
+# is told, and the status.
+STREAMS = (
+    (["eval", "--steps", "3", "add.rec", "add.trm"], "s(s(s(z)))\ns(z)\n", "", 0),
+    (["eval", "in"], "!spec G\n", "recw: spec G at byte 17\n", 1),
+    ([*STUCK[0][:-1], "stuck"], STUCK[2], CALLS, 5),
+    (PROFILED[0], PROFILED[1], None, 0),
+    (["trace", "--last", "1", "add.rec", "add.trm"], f"{TRACED}{FIRED}s(z)\n", "", 0),
+    (["serve", "--steps", "1", "--count", "q.rec", "requests"], OUTPUT, "", 0),
+    (["check", "check/unused.rec", "check/broken.rec"], lines_of("check/unused.rec") + lines_of("check/broken.rec"), "", 1),
+    (["check", "check/uncovered.rec"], lines_of("check/uncovered.rec"), "", 0),
+    (["aterm", "--indent", "1", "term"], "f(\n a\n)\n", "", 0),
+    (["share", "term"], "f(a)\ncells 4\n", "", 0),
+    (["share", "--dot", "name"], GRAPH, "", 0),
+    (["match", "f(<term>)", "term"], "yes\na\n", "", 0),
+)
+# The text of each file that they name and that examples/ does not have.
+NAMED = {"in": REFUSED, "stuck": STUCK[1], "requests": INPUT, "term": "f(a)", "name": "a"}
+# the number of standard error
+ERR = 2
+
+
+def is_met(call, it, output, told, status):
+    """Whether a run is as it has to be where one call failed: a beginning of the output, and which error it was."""
+    # no message can be written about standard error itself
+    if it["counts"] == ERR:
+        return it["status"] in (status, NO_WRITE[0]) and output.startswith(it["out"])
+    wanted, message = NO_READ if call == "read" else NO_WRITE
+    # reports stand before the error
+    before = it["err"].removesuffix(message)
+    is_told = it["err"].endswith(message) and (told is None or told.startswith(before))
+    return it["status"] == wanted and is_told and output.startswith(it["out"])
+
+
+def try_streams():
+    """Each read and each write fails in its turn: which error is told, and what was written before.
+
+    How many calls failed.
+    """
+    count = 0
+    with room() as at:
+        for name, text in NAMED.items():
+            write_file(f"{at}/{name}", text)
+        for words, output, told, status in STREAMS:
+            placed = [program(), *(f"{at}/{it}" if it in NAMED else it for it in words)]
+            what = " ".join(words)
+            for call in ("read", "write"):
+                for which in range(1, 1000):
+                    it = failing(placed, EXAMPLES, call, errno.EIO, which)
+                    if it["counts"] is None:
+                        same_told = told is None or it["err"].replace(f"{at}/", "") == told
+                        check(f"{what}: no {call} fails: {it}", True, (it["status"], it["out"]) == (status, output) and same_told)
+                        break
+                    count += 1
+                    check(f"{what}: {call} {which} fails: {it}", True, is_met(call, it, output, told, status))
+                check(f"{what}: calls of {call}", True, which > 1)
     return count
 
 
@@ -186,22 +249,23 @@ def try_full(at):
 
 def try_pipe(at):
     """Who reads the output goes away, before the first byte or after it; the signal of that does not end the run."""
-    for words, text, _ in LINES:
-        for taken in (0, 1):
+    for words, text, output in LINES:
+        explained = [(0, ("--explain",), CLOSED_EXPLAINED)] if output else []
+        for taken, more, due in ((0, (), CLOSED), (1, (), CLOSED), *explained):
             with open(write_file(f"{at}/text", text), "rb") as given:
                 ends = os.pipe()
                 how = {"stdin": given, "stdout": ends[1], "stderr": subprocess.PIPE, "cwd": EXAMPLES}
                 if not taken:
                     os.close(ends[0])
-                with subprocess.Popen([program(), *words.split()], **how) as child:
+                with subprocess.Popen([program(), *words.split(), *more], **how) as child:
                     os.close(ends[1])
                     if taken:
                         os.read(ends[0], 1)
                         os.close(ends[0])
                     told = child.stderr.read().decode("latin-1")
             whole = taken and text is not LONG and child.returncode < 2
-            what = f"{words}: a pipe that is closed after {taken} bytes"
-            check(what, True, whole or (child.returncode, told) == NO_WRITE)
+            what = f"{words} {' '.join(more)}: a pipe that is closed after {taken} bytes: {child.returncode} {told!r}"
+            check(what, True, whole or (child.returncode, told) == due)
 
 
 # Words whose line or message on standard error, or what is told behind it, cannot be written, with the status and the
@@ -277,7 +341,7 @@ def try_reader():
     how = {"env": {**os.environ, "RECW_EXPLAIN": ""}}
     check("RECW_EXPLAIN: no file", (4, "", missing), recw(*words, **how))
     check("neither: no file", (4, "", NO_READ[1]), recw(*words))
-    ended = "!spec G\n", "recw: spec G at byte 0\n<stdin>:1:1: G: no specification has this here; the text is empty"
+    ended = "!spec G\n", "recw: spec G at byte 0\n<stdin>:1:1: G: syntax error in the specification; the text is empty"
     status, output, told = on_terminal(["eval"])
     check("a terminal: no text", (1, *ended), (status, output, told.partition("; expected")[0]))
     status, output, told = on_terminal(["x\x1b[31m.rec"])

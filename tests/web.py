@@ -12,8 +12,10 @@ Without words these are all. What a command or the page is missing for is passed
 
 import base64
 import glob
+import itertools
 import json
 import os
+import random
 import re
 import shutil
 import subprocess
@@ -96,6 +98,49 @@ def colours():
         same(f"contrasts by {scheme}", [], low)
 
 
+def explanation(path, folder, name, texts):
+    """What the program explains of an error: its source, code and offset, and the lines without names of texts."""
+    paths = [f"{folder}/{i}" for i in range(len(texts))]
+    words = [name.split("_")[0], "--explain"]
+    if name in ("match", "make"):
+        words += ["--", os.fsdecode(texts[0]), paths[1] if name == "match" else os.fsdecode(texts[1])]
+    else:
+        words += paths
+    ran = subprocess.run([path, *words], capture_output=True, check=False)
+    source, code = re.match(r"!(\w+) (\w+)\n", ran.stdout.decode()).groups()
+    told = ran.stderr.decode().splitlines()
+    at = re.match(r"recw: \w+ \w+ at byte (\d+)$", told[0])
+    lines = [re.sub(r"^(?:.*/\d|PATTERN|ARGS|<stdin>)(?=:\d+:\d+: |: )(:(?=\d)|: )", "", it) for it in told[bool(at) :]]
+    error = {"source": source, "code": code, "at": int(at[1]) if at else None}
+    return error, [it for it in lines if not it.startswith("    ")]
+
+
+def explained(path, of_page, folder, name, texts):
+    """The page explains an error as the program does, of texts that are ASCII: others have other columns."""
+    of_pattern = {"match": ["pattern", "term"], "make": ["pattern", "args"]}
+    known = {"eval": ["spec"], "eval_terms": ["spec", "terms"], **of_pattern}.get(name, ["term"])
+    if not all(it.isascii() and len(it) < 100000 for it in texts):
+        return 0
+    error, wanted = explanation(path, folder, name, texts)
+    by_name = {key: it.decode() for key, it in zip(known, texts)}
+    found = of_page.send({"name": "explain", "error": error, "texts": by_name})
+    same(f"explanation of {error} in {by_name}", wanted, found)
+    return 1
+
+
+def edited(text, count, seed):
+    """A text with some of its tokens left out, put in twice, or put elsewhere, in so many ways."""
+    chance = random.Random(seed)
+    tokens = re.findall(r"[A-Za-z0-9_'-]+|\s+|.", text)
+    for _ in range(count):
+        made = list(tokens)
+        for _ in range(chance.choice([1, 1, 2, 3])):
+            i = chance.randrange(len(made) + 1)
+            other = [chance.choice([*tokens, "?", "-", '"'])]
+            made[i : i + chance.choice([0, 1])] = [] if chance.random() < 0.4 else other
+        yield "".join(made)
+
+
 class Module:
     """The module of the page, in node."""
 
@@ -114,7 +159,10 @@ class Module:
 
     def ask(self, name, texts, options=None):
         texts = [base64.b64encode(it).decode() for it in texts]
-        self.node.stdin.write(json.dumps({"name": name, "texts": texts, "options": options}) + "\n")
+        return self.send({"name": name, "texts": texts, "options": options})
+
+    def send(self, asked):
+        self.node.stdin.write(json.dumps(asked) + "\n")
         self.node.stdin.flush()
         return json.loads(self.node.stdout.readline())
 
@@ -131,11 +179,13 @@ def native(path, folder, name, texts, options):
         with open(paths[-1], "wb") as file:
             file.write(text)
     words = [name, *paths]
-    if name.startswith(("eval", "trace")):
-        numbers = [key for key in ("steps", "cells", "width") if key in options]
+    if name.startswith(("eval", "trace", "profile")):
+        numbers = [key for key in ("steps", "cells", "memo", "reclaim", "width") if key in options]
         limits = [it for key in numbers for it in (f"--{key}", str(options[key]))]
         flags = [f"--{key}" for key in ("count", "whole") if options.get(key)]
-        words = [name.split("_", 1)[0], *limits, *flags, *paths]
+        bound = [] if name.startswith("trace") else ["--bytes", "1000000"]
+        words = [name.split("_", 1)[0].replace("profile", "eval"), *limits, *bound, *flags, *paths]
+        words += ["--profile"] * (name == "profile")
     elif name == "share_dot":
         words = ["share", "--dot", "--nodes", str(options["nodes"]), *paths]
     elif name == "match":
@@ -148,15 +198,17 @@ def native(path, folder, name, texts, options):
 
 def runs():
     """The runs that are compared: a name, the texts, and the options."""
+    tables = itertools.cycle([{}, {"memo": 0, "reclaim": 1}, {"memo": 3, "reclaim": 100}])
     for name, texts, options in evaluations():
         yield name, texts, options
         yield "check", texts[:1], None
+        yield "profile", [texts[0], texts[1] if len(texts) > 1 else b"[]"], {**options, **next(tables)}
         # of a trace first the lines without whole terms, and then those with them
         for whole in (False, True):
             limits = {**options, "steps": min(options["steps"], 2000), "width": 400}
             yield name.replace("eval", "trace"), texts, {**limits, "whole": whole}
-    formats = text_of("docs/FORMATS.md")
-    texts = [it.encode() for it in quoted(formats[: formats.index("## 4. Specifications")]) if it]
+    terms = re.sub(r"```.*?```", "", text_of("docs/reference/aterm.md"), flags=re.S)
+    texts = [it.encode() for it in quoted(terms) if it]
     for text in texts:
         yield "aterm", [text], None
         yield "share", [text], None
@@ -167,6 +219,25 @@ def runs():
     for pair in zip(texts, texts[1:]):
         yield "match", [*pair], None
         yield "make", [*pair], None
+    yield from mistakes()
+
+
+def mistakes():
+    """Runs over texts of which most have errors, of all codes."""
+    base = text_of("examples/q.rec")
+    for it in [*edited(base, 200, 1), *edited(text_of("examples/tutorial/sort.rec"), 100, 2)]:
+        yield "eval", [it.encode()], {**USUAL, "steps": 1000}
+    for it in edited("[f(a),f(f(a)){n(1),[2]},b{c}]", 300, 3):
+        yield "eval_terms", [base.encode(), it.encode()], USUAL
+    quoting = b"REC-SPEC Q SORTS A B CONS a : -> A x' : -> B 0 : -> A OPNS g : A B -> B VARS X : A EVAL END-SPEC"
+    for it in edited("""["0","x'",g("0","x'"),g("\\060",g(a,"x'")),a{1}]""", 300, 4):
+        yield "eval_terms", [quoting, it.encode()], USUAL
+    pattern = "f(<int>,g(<appl>){<list>},<term>,[<str>,<list>]){<placeholder>}"
+    args = '[7,a(b),[n],x,"s",[1,2],<int>]'
+    for it in edited(pattern, 200, 5):
+        yield "make", [it.encode(), args.encode()], None
+    for it in edited(args, 200, 6):
+        yield "make", [pattern.encode(), it.encode()], None
 
 
 def evaluations():
@@ -183,11 +254,11 @@ def evaluations():
     for it in re.finditer(rb"\S+", text):
         yield "eval", [text[: it.end()]], USUAL
         yield "eval", [text[: it.start()] + b"?" + text[it.start() :]], USUAL
-    formats = text_of("docs/FORMATS.md")
-    for spec in re.findall(r"`(REC-SPEC [^`]*)`", formats):
+    rules = text_of("docs/reference/rec.md")
+    for spec in re.findall(r"`(REC-SPEC [^`]*)`", rules):
         yield "eval", [spec.encode()], USUAL
-    base = re.search(r"```\n(REC-SPEC Q.*?)```", formats, re.S)[1].encode()
-    for terms in quoted(formats[formats.index("With Q of section 6:") : formats.index("## 8. Evaluation")]):
+    base = text_of("examples/q.rec").encode()
+    for terms in quoted(rules[rules.index("## Input terms") : rules.index("## Evaluation")]):
         yield "eval_terms", [base, terms.encode()], USUAL
     for spec, terms, limits in specifications.some(300):
         texts = [spec.encode()] if terms is None else [spec.encode(), terms.encode()]
@@ -197,7 +268,7 @@ def evaluations():
 def module(path):
     if not is_there("the module", "node") or not has_page("the module"):
         return
-    counts, statuses, places, last, lacking = 0, {}, 0, b"", set()
+    counts, statuses, places, last, explanations = 0, {}, 0, b"", 0
     with Module() as of_page, tempfile.TemporaryDirectory() as folder:
         exports = of_page.ask("exports", [])
         if exports is None:
@@ -205,8 +276,8 @@ def module(path):
             return
         for name, texts, options in runs():
             if f"recw_{name}" not in exports:
-                lacking.add(name)
-                continue
+                same(f"the module has {name}", name, None)
+                return
             # the lines of a check begin with the name of the file
             given = [f"{folder}/0".encode(), *texts] if name == "check" else texts
             wanted, found = native(path, folder, name, texts, options), of_page.answer(name, given, options)
@@ -219,12 +290,14 @@ def module(path):
                 places += there["found"]
             last = found[2]
             counts += 1
+            if found[0] == 1 and name in ("eval", "eval_terms", "aterm", "match", "make"):
+                explanations += explained(path, of_page, folder, name, texts)
             statuses[found[0]] = statuses.get(found[0], 0) + 1
     same("runs end in each way", [0, 1, 3], sorted(statuses))
-    if lacking:
-        print(f"not tried: {', '.join(sorted(lacking))}, which the page's module lacks")
-    same("there are redexes", True, places > 1000 or "trace" in lacking)
-    print(f"module: {counts} runs, by status {dict(sorted(statuses.items()))}; {places} redexes in whole terms")
+    same("there are redexes", True, places > 1000)
+    same("there are explanations", True, explanations > 1000)
+    by_status = dict(sorted(statuses.items()))
+    print(f"module: {counts} runs, by status {by_status}; {places} redexes in whole terms; {explanations} explanations")
 
 
 def browser(pictures=None):

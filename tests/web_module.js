@@ -3,17 +3,26 @@
 //     node web_module.js PAGE
 //
 // Each line of the standard input is {name, texts, options}, the texts in base64; each is answered by a line with the
-// status, what the program says on standard error, and the output in base64. Each run has an instance of its own. A line
-// of the name `places` has the texts of a trace, without whole terms and with them, and is answered by how many of its
-// redexes are found in the whole terms, and by how many are not though these are not cut. One of the name `exports` is
-// answered by the names of what the module has, or by null where its memory has 64 bits and this node takes none such.
+// status, what the program says on standard error, and the output in base64. Each run has an instance of its own. There
+// are other names than those of runs:
+//
+//     places      the texts of a trace, without whole terms and with them: how many redexes are found in the whole
+//                 terms, and how many are not though these are not cut
+//     explain     an error, and the texts by their names and not in base64: what the program explains of it
+//     exports     the names of what the module has, or null if its memory has 64 bits and this node supports none such
 'use strict';
 const fs = require('fs');
 const readline = require('readline');
 const zlib = require('zlib');
 const page = fs.readFileSync(process.argv[2], 'utf8');
-const { callsOf, toldOf } = require('../web/run.js');
-const { readTrace, placeOfRedex } = require('../web/steps.js');
+const load = require('./web_load.js');
+const COMMON = ['run', 'places', 'rows', 'lists', 'steps', 'graph', 'spec', 'aterm', 'names', 'uses', 'hint', 'explain',
+  'jobs'];
+const { callsOf, toldOf, readTrace, placeOfRedex, explainError, lineAndColumn, rulesOf, profileOf } = load(COMMON,
+  ['callsOf', 'toldOf', 'readTrace', 'placeOfRedex', 'explainError', 'lineAndColumn', 'rulesOf', 'profileOf']);
+const { detailsOf } = load(['errors'], ['detailsOf']);
+const data = JSON.parse(/<script type="application\/json" id="data">([^]*?)<\/script>/.exec(page)[1]);
+global.data = data;
 
 const packed = /<script type="application\/octet-stream" id="module">([^<]*)</.exec(page)[1];
 const code = zlib.gunzipSync(Buffer.from(packed, 'base64'));
@@ -29,15 +38,43 @@ function placesIn(texts) {
   return { found: firings.filter(placeOfRedex).length, lost: lost.length };
 }
 
-function answer({ name, texts, options }) {
+// Codes that the program explains without a location, and how many of the notes it has.
+const UNPLACED = { M1: 1, M2: 1 };
+
+// What the program explains, in its lines.
+function explained({ error, texts }) {
+  const told = explainError(error, texts), { code, from, notes, hint } = told, text = texts[error.source];
+  const place = (at) => { const { line, column } = lineAndColumn(text, at); return `${line}:${column}: `; };
+  const isPlaced = from !== null && !(code in UNPLACED);
+  const details = detailsOf({ ...told, notes: isPlaced ? notes : notes.slice(0, UNPLACED[code]), found: null });
+  const first = `${isPlaced ? place(from) : ''}${code}: ${data.refusals[code]}${details ? `; ${details}` : ''}`;
+  return hint ? [first, `${place(hint.from)}${hint.words}`] : [first];
+}
+
+// The lines that the program writes of a profile.
+function profiled(counts, spec) {
+  const { rules, totals } = profileOf(counts, rulesOf(spec)), { steps, hits, saved, made, most, collections } = totals;
+  const matches = rules.reduce((sum, it) => sum + it.matched, 0);
+  const of = (it) => `${it.line}:${it.column}: ${it.matched} matched, ${it.applied} applied, ${it.failed} failed`;
+  return [...rules.map(of),
+    `steps: ${steps} spent, ${matches} matched, ${saved} saved by ${hits} memo hits`,
+    `cells: ${made} made, ${most} in use at most`, `garbage collections: ${collections}`].map((it) => `profile: ${it}\n`).join('');
+}
+
+function answer({ name, texts, options, error }) {
+  if (name === 'explain') return explained({ error, texts });
   if (name === 'exports') return module_ && WebAssembly.Module.exports(module_).map((it) => it.name);
   if (name === 'places') return placesIn(texts);
   const call = callsOf(new WebAssembly.Instance(module_, {}));
-  const given = options && 'steps' in options ? { ...options, steps: BigInt(options.steps) } : options;
+  const spec = Buffer.from(texts[0], 'base64').toString();
+  const more = name === 'profile' ? { rules: rulesOf(spec).length } : {};
+  const given = options && 'steps' in options ? { ...options, ...more, steps: BigInt(options.steps) } : options;
   const begin = performance.now();
   const found = call(name, texts.map((it) => new Uint8Array(Buffer.from(it, 'base64'))), given);
   const milliseconds = performance.now() - begin;
-  return { status: found.status, told: toldOf(found), out: Buffer.from(found.out).toString('base64'), milliseconds };
+  const profile = found.counts && found.counts.some((it) => it > 0n) ? profiled(found.counts, spec) : '';
+  const out = Buffer.from(found.out).toString('base64');
+  return { status: found.status, told: profile + toldOf(found), out, milliseconds };
 }
 
 readline.createInterface({ input: process.stdin }).on('line', (line) => {

@@ -42,6 +42,10 @@ class Browser:
         self.ask("POST", f"{self.session}/url", {"url": "about:blank"})
         self.ask("POST", f"{self.session}/url", {"url": address})
 
+    def before(self, script):
+        """Runs a script in each page before its own."""
+        self.devtools("Page.addScriptToEvaluateOnNewDocument", {"source": script})
+
     def do(self, script, *arguments):
         """What a script's `return` gives."""
         return self.ask("POST", f"{self.session}/execute/sync", {"script": script, "args": [*arguments]})
@@ -61,6 +65,11 @@ class Browser:
         up = [{"type": "keyUp", "value": it} for it in reversed(keys)]
         actions = [{"type": "key", "id": "keyboard", "actions": down + up}]
         self.ask("POST", f"{self.session}/actions", {"actions": actions})
+
+    def point(self, x, y):
+        """Moves the mouse to a point of the window."""
+        move = {"type": "pointerMove", "duration": 0, "x": int(x), "y": int(y), "origin": "viewport"}
+        self.ask("POST", f"{self.session}/actions", {"actions": [{"type": "pointer", "id": "mouse", "actions": [move]}]})
 
     def wait(self, script, seconds=20):
         """Waits until a script's `return` gives something, and gives that."""

@@ -1,48 +1,28 @@
-// The tab of a check: what is found in the specification, each with a way to its place.
-
-const FOUND_LINE = /^SPEC:(\d+):(\d+): (\w+): (.*)$/;
-const MOST_FOUND = 500;  // that are shown
-
-// What a line tells: a place, the short name of a rule or of a warning, and words.
-function foundOf(line) {
-  const [, row, column, rule, words] = FOUND_LINE.exec(line);
-  return { line: Number(row), column: Number(column), rule, words, kind: rule[0] === 'W' ? 'warn' : 'bad' };
-}
-
-function foundIn(text) { return text.split('\n').slice(0, -1).map(foundOf); }
-
-// The character of a text at a line and a column, which counts bytes.
-function characterOf(text, line, column) {
-  const lines = text.split('\n').slice(0, line);
-  return lines.slice(0, -1).join('').length + line - 1 + characterAt(lines[line - 1], column - 1);
-}
+// The tab of a check: what is found in the specification, each with a way to its location.
 
 async function showFound(runner) {
-  const panel = byId('found'), { spec } = editors, encoder = new TextEncoder();
-  const told = await runner.run([{ name: 'check', texts: [encoder.encode('SPEC'), encoder.encode(spec.text)] }]);
-  if (!told || panel.hidden) return;
-  const { fault, out } = told.answers ? told.answers[0] : { fault: told.error };
-  const found = fault ? [] : foundIn(new TextDecoder().decode(out));
-  const places = found.map((it) => wordAt(spec.text, characterOf(spec.text, it.line, it.column)));
-  spec.mark('found', found.map(({ kind }, i) => ({ ...places[i], kind })));
-  const items = found.slice(0, MOST_FOUND).map((it, i) => messageOf(it, () => spec.select(places[i])));
-  byId('found-list').replaceChildren(...items.map((it) => element('li', {}, it)));
-  byId('found-said').textContent = fault ? `The check stopped: ${fault}.` : summaryOf(found);
+  const panel = byId('found'), { spec } = editors, { text } = spec;
+  const told = await runner.run('check', { texts: { spec: text } });
+  if (!told || panel.hidden || spec.text !== text) return;
+  const failure = told.broken || told.fault, { found = [], count = 0 } = told;
+  spec.mark('found', found);
+  byId('found-list').replaceChildren(...found.map((it) => element('li', {}, messageOf(it))));
+  byId('found-said').textContent = failure ? `The check stopped: ${failure}.` : summaryOf(found, count);
 }
 
-function messageOf({ line, column, rule, words, kind }, go) {
-  const spot = element('span', { className: 'spot' }, `Line ${line}, column ${column} `);
-  const message = element('button', { type: 'button', className: `message ${kind}` },
-    spot, element('strong', {}, rule), ` ${words}`);
-  message.addEventListener('click', go);
-  return message;
+function messageOf(found) {
+  const { line, column, rule, words, kind } = found;
+  const go = element('button', { type: 'button', className: 'go' },
+    element('span', { className: 'spot' }, `Line ${line}, column ${column} `), words);
+  go.addEventListener('click', () => editors.spec.select(found));
+  return element('div', { className: `message ${kind}` }, codeButton(rule), go);
 }
 
-function summaryOf(found) {
-  const more = found.length > MOST_FOUND ? `, of which ${MOST_FOUND} are shown` : '';
-  if (!found.length) return 'The specification is good, and nothing in it is conspicuous.';
-  if (found[0].kind === 'warn') return `The specification is good, with ${plural(found.length, 'warning')}${more}.`;
-  return `The specification is refused by ${found[0].rule}, at ${plural(found.length, 'place')}${more}.`;
+function summaryOf(found, count) {
+  const more = count > found.length ? `, of which ${found.length} are shown` : '';
+  if (!count) return 'The specification is valid, and nothing in it is conspicuous.';
+  if (found[0].kind === 'warn') return `The specification is valid, with ${plural(count, 'warning')}${more}.`;
+  return `The specification is rejected with ${found[0].rule}, at ${plural(count, 'location')}${more}.`;
 }
 
 function listenToCheck(runner) {

@@ -1,8 +1,14 @@
 // The tab of a graph: the shared graph of a value, or of the tab of a term, as a picture.
 
-const MOST_NODES = 300;
 const SCALES = [0.35, 0.5, 0.7, 1, 1.4, 2];
-const KINDS = { args: 'arguments', head: 'head', tail: 'tail', inner: 'inside', annotations: 'annotations' };
+const KINDS = { args: 'arguments', head: 'head', tail: 'tail', inner: 'inner term', annotations: 'annotations',
+  argument: 'argument', element: 'element', annotation: 'annotation' };
+const EDGES = {
+  cells: `Edges lead downwards: solid ones to arguments, to the first element of a list (which is a dot), and to the
+    inner term of a placeholder; dashed ones to the rest of a list; dotted ones to annotations.`,
+  terms: `Edges lead downwards: solid ones to arguments from left to right, to the elements of a list, and to the inner
+    term of a placeholder; dotted ones to annotations.`,
+};
 const SPACE = 'http://www.w3.org/2000/svg';
 
 const drawing = { graph: null, nodes: [], edges: [], scale: 3, lit: 0 };
@@ -16,7 +22,7 @@ function shape(name, attributes, ...children) {
 
 // The values of the last evaluation, as lines have them.
 function valuesThere() {
-  const lines = last ? new TextDecoder().decode(last).split('\n').slice(0, -1) : [];
+  const lines = last ? decoded(last).split('\n').slice(0, -1) : [];
   return lines.filter((it) => !it.startsWith('!')).map((it) => it.split('\t')[0]).slice(0, MOST_LINES);
 }
 
@@ -31,31 +37,51 @@ function listGraphs() {
 
 async function showGraph(runner) {
   listGraphs();
-  const text = new TextEncoder().encode(byId('graph-of').value);
-  const told = await runner.run([{ name: 'share_dot', texts: [text], options: { nodes: MOST_NODES } }]);
+  const isOfTerms = byId('graph-terms').checked;
+  byId('graph-lines').textContent = EDGES[isOfTerms ? 'terms' : 'cells'];
+  const told = await runner.run('graph', { term: byId('graph-of').value, isOfTerms });
   if (!told) return;
-  const { status, fault, out } = told.answers ? told.answers[0] : { fault: told.error };
-  const isGood = !fault && status === 0;
-  byId('graph-sheet').hidden = !isGood;
+  byId('graph-sheet').hidden = !told.graph;
+  byId('graph-save').disabled = !told.graph;
   byId('graph-node').textContent = '';
-  if (isGood) { drawGraph(readGraph(new TextDecoder().decode(out))); return; }
-  byId('graph-said').textContent = fault ? `The run stopped: ${fault}.` : 'The term is refused.';
+  if (told.graph) { drawGraph(told); return; }
+  const failure = told.broken || told.fault;
+  byId('graph-said').textContent = failure ? `The run stopped: ${failure}.` : 'The term is rejected.';
 }
 
-function drawGraph(graph) {
-  const places = layOut(graph);
+function drawGraph({ graph, places }) {
   drawing.graph = graph;
   drawing.size = places;
   drawing.nodes = places.nodes.map(nodeShape);
   drawing.edges = places.edges.map(edgeShape);
-  const count = plural(graph.nodes.length, 'different part');
+  const count = wordsOfCount(graph);
   const picture = shape('svg', { viewBox: `0 0 ${places.width} ${places.height}`, role: 'group',
-    'aria-label': `A graph of ${count}; arrows go from one to the next` }, ...drawing.edges, ...drawing.nodes);
+    'aria-label': `A graph of ${count}; the arrow keys go from one to the next` }, ...drawing.edges, ...drawing.nodes);
   byId('graph-sheet').replaceChildren(picture);
-  byId('graph-said').textContent = graph.rest
-    ? `${count} are drawn; ${graph.rest.toLocaleString('en')} more are not.` : `${count}.`;
+  byId('graph-said').textContent = wordsOfRest(graph, count);
   scaleGraph(drawing.scale);
   offerNode(0);
+}
+
+function wordsOfCount({ nodes }) {
+  return plural(nodes.length, byId('graph-terms').checked ? 'different term' : 'cell');
+}
+
+function wordsOfRest({ rest, isOpen }, count) {
+  if (!rest && !isOpen) return `${count}.`;
+  if (isOpen) return `${count} are drawn; more are not.`;
+  return `${count} are drawn; ${rest.toLocaleString('en')} more are not.`;
+}
+
+// The picture as a file: with the colours of the day, since a file has no others.
+function savePicture() {
+  const picture = byId('graph-sheet').firstElementChild.cloneNode(true), { width, height } = drawing.size;
+  for (const it of picture.querySelectorAll('*')) for (const name of ['tabindex', 'role']) it.removeAttribute(name);
+  for (const [name, value] of Object.entries({ xmlns: SPACE, width, height })) picture.setAttribute(name, value);
+  const style = document.createElementNS(SPACE, 'style');
+  style.textContent = data.picture;
+  picture.prepend(style);
+  saveFile('graph.svg', new XMLSerializer().serializeToString(picture), 'image/svg+xml');
 }
 
 function nodeShape({ label, x, y, width }, i) {
@@ -81,9 +107,9 @@ function edgeShape({ label, points }) {
 function wordsOfNode(i) {
   const { nodes, edges } = drawing.graph, name = (at) => `${nodes[at].label} (${at + 1})`;
   const own = edges.filter((it) => it.from === i).map((it) => `${KINDS[it.label]} ${name(it.to)}`);
-  const naming = edges.filter((it) => it.to === i).map((it) => `${name(it.from)} by its ${KINDS[it.label]}`);
+  const naming = edges.filter((it) => it.to === i).map((it) => `${name(it.from)} as ${KINDS[it.label]}`);
   const leads = own.length ? `; ${own.join(', ')}` : '';
-  return `${name(i)}${leads}; ${naming.length ? `named by ${naming.join(', ')}` : 'the whole term'}`;
+  return `${name(i)}${leads}; ${naming.length ? `referred to by ${naming.join(', ')}` : 'the whole term'}`;
 }
 
 // Lights a node up with all that names it.
@@ -127,7 +153,8 @@ function listenToGraph(runner) {
   const panel = byId('graph');
   if (!panel) return;
   for (const it of ['shown', 'answered']) panel.addEventListener(it, () => showGraph(runner));
-  byId('graph-of').addEventListener('change', () => showGraph(runner));
+  for (const it of ['graph-of', 'graph-terms']) byId(it).addEventListener('change', () => showGraph(runner));
+  byId('graph-save').addEventListener('click', savePicture);
   byId('graph-smaller').addEventListener('click', () => scaleGraph(drawing.scale - 1));
   byId('graph-larger').addEventListener('click', () => scaleGraph(drawing.scale + 1));
   byId('graph-sheet').addEventListener('keydown', (event) => {

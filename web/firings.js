@@ -1,45 +1,42 @@
-// The tab of a trace: one goes through the rules that fire, back and forth.
+// The tab of a trace: one goes through the rewrites, back and forth.
 
-const MOST_FIRINGS = 5000;    // of all terms together
-const LEAST_FIRINGS = 20;     // that may be shown of each term
-const WIDTH = 2000;           // characters of a term
 const LONGEST_TERM = 60;      // characters of a term in the list
+const TRACING_PAUSE = 150;    // milliseconds, after which it is said that a trace is made
+const CONTROLS = ['term', 'save', 'first', 'back', 'forth', 'last', 'slider'].map((it) => `firings-${it}`);
 
-const steps = { terms: [], firings: [], at: 0, limit: 0, told: '' };
-
-// The runs of what is asked, with a limit below which all terms together have not too many firings.
-function tracesAsked() {
-  const { name, texts, options } = evaluationAsked();
-  const count = termsAsked(texts.length > 1).length;
-  const most = BigInt(Math.max(LEAST_FIRINGS, Math.floor(MOST_FIRINGS / Math.max(1, count))));
-  steps.limit = options.steps < most ? options.steps : most;
-  const limited = { ...options, steps: steps.limit, count: true, width: WIDTH };
-  const run = name.replace('eval', 'trace');
-  return [false, true].map((whole) => ({ name: run, texts, options: { ...limited, whole } }));
-}
+const steps = { terms: [], firings: [], at: 0, limit: 0, isLimit: false, told: '', asked: [] };
 
 async function showFirings(runner) {
-  const told = await runner.run(tracesAsked());
+  const asked = evaluationAsked();
+  if (!asked) { byId('firings-said').textContent = notRun(); return; }
+  const slow = setTimeout(showTracing, TRACING_PAUSE), told = await runner.run('trace', asked);
+  clearTimeout(slow);
   if (!told || byId('firings').hidden) return;
-  const faults = told.answers ? told.answers.map((it) => it.fault) : [told.error];
-  const [fault] = faults.filter((it) => it), isGood = !fault && told.answers[0].status === 0;
-  const [short, long] = isGood ? told.answers.map(({ out }) => new TextDecoder().decode(out)) : ['', ''];
-  // an answer that comes once more leaves the firing that is looked at
-  const again = isGood && steps.told === short + long;
-  steps.told = short + long;
+  for (const it of CONTROLS) byId(it).disabled = false;
+  const isGood = Boolean(told.terms);
+  // an answer that comes once more leaves the rewrite that is looked at
+  const isSame = steps.told === told.short && String(steps.asked) === String(told.asked);
+  const again = isGood && steps.terms.length > 0 && isSame;
+  steps.told = told.short || '';
   if (again) return goToFiring(steps.at);
-  steps.terms = readTrace(short, long);
+  Object.assign(steps, { terms: told.terms || [], asked: told.asked || [], limit: told.limit, isLimit: told.isLimit });
   listTerms();
   showTermOfTrace();
   if (isGood) return;
-  byId('firings-said').textContent = fault ? `The trace stopped: ${fault}.` : 'What is refused has no trace.';
+  const failure = told.broken || told.fault;
+  byId('firings-said').textContent = failure ? `The trace stopped: ${failure}.` : 'A rejected text has no trace.';
+}
+
+// A trace is made, and nothing can be looked at meanwhile.
+function showTracing() {
+  byId('firings-said').textContent = 'Tracing…';
+  for (const it of CONTROLS) byId(it).disabled = true;
 }
 
 function listTerms() {
   const list = byId('firings-term'), chosen = list.selectedIndex;
-  const asked = termsAsked(editors.terms.text.trim() !== '');
   const items = steps.terms.map(({ firings }, i) => element('option', {},
-    `${shortText(asked[i] || '')}: ${plural(firings.length, 'firing')}`));
+    `${shortText(steps.asked[i] || '')}: ${plural(firings.length, 'rewrite')}`));
   list.replaceChildren(...items);
   if (items.length) list.selectedIndex = Math.min(Math.max(chosen, 0), items.length - 1);
 }
@@ -49,7 +46,7 @@ function shortText(text) {
   return line.length <= LONGEST_TERM ? line : `${line.slice(0, LONGEST_TERM)}…`;
 }
 
-// The chosen term, at its first firing.
+// The chosen term, at its first rewrite.
 function showTermOfTrace() {
   const term = steps.terms[byId('firings-term').selectedIndex];
   steps.firings = term ? term.firings : [];
@@ -58,19 +55,31 @@ function showTermOfTrace() {
   goToFiring(0);
 }
 
-// What a term came to, and what is not shown of the way to that.
+// The result of a term, and what is not shown of the way to it.
 function endOf({ end, more }) {
-  const left = more === '0' ? '' : `${more} more firings are not shown. `;
+  const left = more === '0' ? '' : `${more} more rewrites are not shown. `;
   if (!end.startsWith('!limit')) {
     const [value, count] = end.split('\t');
-    return [`${left}After ${plural(Number(count), 'step')} the value is `, element('code', {}, cut(value))];
+    return [`${left}After ${plural(Number(count), 'step')} the value is `, element('code', {}, cut(cutText(value)))];
   }
   const limit = plural(Number(steps.limit), 'step');
-  if (steps.limit === optionsAsked().steps) return [`${left}The limit of ${limit} is reached.`];
+  if (steps.isLimit) return [`${left}The limit of ${limit} is reached.`];
   return [`${left}The trace ends after ${limit}: the rest is not shown.`];
 }
 
-// Shows a firing; a number outside stands for the nearest one.
+// What is said of a term without a rewrite. A trace has none of those inside conditions.
+function wordsWithoutFiring() {
+  const term = steps.terms[byId('firings-term').selectedIndex];
+  if (!term) return 'There are no terms to evaluate.';
+  if (term.end.startsWith('!limit')) {
+    const spent = plural(Number(steps.limit), 'step');
+    return `All ${spent} were spent inside conditions, whose rewrites a trace does not show.`;
+  }
+  const spent = Number(term.end.split('\t')[1]);
+  return spent ? `No rule applies: its conditions fail, which took ${plural(spent, 'step')}.` : 'No rule applies.';
+}
+
+// Shows a rewrite; a number outside stands for the nearest one.
 function goToFiring(at) {
   const { firings } = steps, last = firings.length - 1;
   steps.at = Math.max(0, Math.min(at, last));
@@ -81,8 +90,7 @@ function goToFiring(at) {
   slider.disabled = last < 1;
   for (const it of ['first', 'back']) byId(`firings-${it}`).disabled = steps.at === 0;
   for (const it of ['forth', 'last']) byId(`firings-${it}`).disabled = steps.at >= last;
-  const said = !steps.terms.length ? 'There are no terms to evaluate.' : 'No rule fires.';
-  byId('firings-said').textContent = firing ? `Firing ${steps.at + 1} of ${firings.length}` : said;
+  byId('firings-said').textContent = firing ? `Rewrite ${steps.at + 1} of ${firings.length}` : wordsWithoutFiring();
   slider.setAttribute('aria-valuetext', firing ? `${steps.at + 1} of ${firings.length}` : 'none');
   if (firing) showFiring(firing);
   else editors.spec.mark('firing', []);
@@ -90,7 +98,7 @@ function goToFiring(at) {
 
 function showFiring(firing) {
   const { line, column, redex, contractum, before, after } = firing, { spec } = editors;
-  const from = characterOf(spec.text, line, column), end = spec.text.indexOf('\n', from);
+  const from = characterOf(spec.model, line, column), end = spec.text.indexOf('\n', from);
   const rule = { from, to: end < 0 ? spec.text.length : end, kind: 'here' };
   spec.mark('firing', [rule]);
   spec.reveal(rule);
@@ -99,7 +107,7 @@ function showFiring(firing) {
   byId('firing-redex').textContent = redex;
   byId('firing-contractum').textContent = contractum;
   const place = placeOfRedex(firing);
-  byId('firing-where').textContent = `In the whole term${place ? '' : ', behind what is shown of it'}`;
+  byId('firing-where').textContent = `In the whole term${place ? '' : ', after what is shown of it'}`;
   showMarked('firing-before', before, place && [place.from, place.to]);
   showMarked('firing-after', after, place && [place.from, place.until]);
 }
@@ -112,7 +120,7 @@ function showMarked(id, text, part) {
   box.scrollTop = part ? marked.offsetTop - box.offsetTop - box.clientHeight / 3 : 0;
 }
 
-// The firing to which a key leads.
+// The rewrite to which a key leads.
 function keyedFiring(key) {
   return { ArrowLeft: steps.at - 1, ArrowRight: steps.at + 1, Home: 0, End: steps.firings.length - 1 }[key];
 }
@@ -123,6 +131,7 @@ function listenToFirings(runner) {
   for (const it of ['shown', 'asked']) panel.addEventListener(it, () => showFirings(runner));
   panel.addEventListener('left', () => editors.spec.mark('firing', []));
   byId('firings-term').addEventListener('change', showTermOfTrace);
+  byId('firings-save').addEventListener('click', () => saveFile('trace.txt', steps.told));
   for (const [name, key] of Object.entries({ first: 'Home', back: 'ArrowLeft', forth: 'ArrowRight', last: 'End' })) {
     byId(`firings-${name}`).addEventListener('click', () => goToFiring(keyedFiring(key)));
   }

@@ -1,9 +1,15 @@
-// Colours by a TextMate grammar, of which this takes what editors/rec.tmLanguage.json uses.
+// Colours by a TextMate grammar, of which this takes what editors/vscode/rec.tmLanguage.json uses.
 
-// A text's parts that the grammar names: where each begins and ends, and its name.
-function namedParts(grammar, text) {
+const STRIDE = 4000;          // characters between two stops
+const LOOKAHEAD = 200;        // characters after a part, on which its colours may depend
+const MOST_AT_ONCE = 60000;   // characters that are gone through at once
+
+function rootOf(grammar) { return [{ patterns: grammar.patterns, end: null }]; }
+
+// A text's parts that the grammar names, from its start on, where `stack` is what is open: where each begins and ends,
+// and its name. `stop` gets each offset at which one can go on later, and what is open there.
+function namedParts(grammar, text, stack = rootOf(grammar), stop = () => {}) {
   const parts = [], found = new Map();
-  const stack = [{ patterns: grammar.patterns, end: null }];
   let at = 0;
 
   // The next place where an expression matches; each is searched for once until that is passed.
@@ -51,8 +57,53 @@ function namedParts(grammar, text) {
     if (!rule) stack.pop();
     else if (rule.begin) stack.push({ patterns: rule.patterns, end: rule.end, endCaptures: rule.endCaptures });
     at = to;
+    stop(at, stack);
   }
   return parts;
+}
+
+// The colours of a text that changes. Stops are offsets at which what is open is known.
+class Colours {
+  constructor(grammar) {
+    this.grammar = grammar;
+    this.stops = [{ at: 0, stack: rootOf(grammar) }];
+  }
+
+  // The text has changed from an offset on.
+  change(at) {
+    while (this.stops.length > 1 && this.stops.at(-1).at > at - LOOKAHEAD) this.stops.pop();
+  }
+
+  stopBefore(at) {
+    let i = this.stops.length - 1;
+    while (this.stops[i].at > at) i -= 1;
+    return this.stops[i];
+  }
+
+  // Whether the colours at an offset are known at once; else goes on a little towards them.
+  reaches(text, at) {
+    const { at: from } = this.stops.at(-1);
+    if (at - from <= MOST_AT_ONCE) return true;
+    this.partsFrom(text, this.stops.at(-1), from + MOST_AT_ONCE);
+    return this.stops.at(-1).at === from;
+  }
+
+  // The named parts between two offsets.
+  partsIn(text, from, to) {
+    return this.partsFrom(text, this.stopBefore(from), to).filter((it) => it.to > from);
+  }
+
+  partsFrom(text, { at, stack }, to) {
+    const part = text.slice(at, to + LOOKAHEAD), last = this.stops.at(-1);
+    let known = last.at;
+    const parts = namedParts(this.grammar, part, [...stack], (end, open) => {
+      const stop = at + end;
+      if (stop < known + STRIDE || stop > to) return;
+      this.stops.push({ at: stop, stack: [...open] });
+      known = stop;
+    });
+    return parts.map((it) => ({ from: it.from + at, to: it.to + at, name: it.name })).filter((it) => it.from < to);
+  }
 }
 
 if (typeof module !== 'undefined') module.exports.namedParts = namedParts;

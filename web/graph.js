@@ -23,6 +23,53 @@ function readGraph(text) {
   return graph;
 }
 
+// Whether a cell is one of a list: no name is printed so.
+function isOfList({ label }) { return label === '.' || label === '[]'; }
+
+// The graph of terms alone: instead of lists of arguments and of annotations there are edges to their items, and a list
+// that is a term itself is one node.
+function withoutLists({ nodes, edges, rest }) {
+  const beside = nodes.map(() => ({}));
+  for (const { from, to, label } of edges) beside[from][label] = to;
+  const made = { nodes: [], edges: [], rest: 0, isOpen: rest > 0 }, numbers = new Map(), ahead = [];
+
+  function numberOf(cell) {
+    if (!numbers.has(cell)) {
+      numbers.set(cell, made.nodes.length);
+      made.nodes.push({ label: nodes[cell].label === '.' ? '[…]' : nodes[cell].label });
+      ahead.push(cell);
+    }
+    return numbers.get(cell);
+  }
+
+  function link(from, list, label) {
+    for (let cell = list; cell !== undefined && nodes[cell].label === '.'; cell = beside[cell].tail) {
+      const { head } = beside[cell];
+      if (head !== undefined) made.edges.push({ from, to: numberOf(head), label });
+    }
+  }
+
+  if (nodes.length) numberOf(0);
+  for (let i = 0; i < ahead.length; i++) {
+    const cell = ahead[i], { args, inner, annotations } = beside[cell];
+    if (isOfList(nodes[cell])) link(i, cell, 'element');
+    link(i, args, 'argument');
+    if (inner !== undefined) made.edges.push({ from: i, to: numberOf(inner), label: 'inner' });
+    link(i, annotations, 'annotation');
+  }
+  return made;
+}
+
+// The first nodes of a graph, and how many were left out.
+function firstNodes({ nodes, edges, rest, isOpen }, most) {
+  return {
+    nodes: nodes.slice(0, most),
+    edges: edges.filter((it) => it.from < most && it.to < most),
+    rest: rest + Math.max(0, nodes.length - most),
+    isOpen,
+  };
+}
+
 function labelOf(written) {
   return written.replace(/\\([^])/g, '$1').replace(/&amp;/g, '&');
 }
@@ -234,4 +281,4 @@ function layOut(graph) {
   };
 }
 
-if (typeof module !== 'undefined') module.exports = { readGraph, layersOf, layOut, SIZES };
+if (typeof module !== 'undefined') module.exports = { readGraph, withoutLists, firstNodes, layersOf, layOut, SIZES };

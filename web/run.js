@@ -10,6 +10,8 @@ const USUAL_TRACE = { ...USUAL, width: 1 << 30, whole: false };
 // What the module answers, beside 0, 1 for a refusal, and 2 where the room is too short.
 const FAULTS = { 3: 'out of memory', 4: 'out of cells' };
 const FIRST_ROOM = 1 << 24;
+// What a profile counts: the rules, and what was done; and of each rule how often it matched, applied and failed.
+const COUNTS = { totals: 7, ofRule: 3 };
 
 // The calls of an instance: what a run of this name over these texts comes to.
 function callsOf(instance) {
@@ -50,9 +52,17 @@ function callsOf(instance) {
     return [at];
   }
 
-  // what stands behind the texts of a run
+  // Room for what a profile counts: totals, and three numbers for each rule.
+  function putProfile(options) {
+    const size = COUNTS.totals + COUNTS.ofRule * options.rules, at = roomFor(8 * size);
+    bytes().fill(0, Number(at), Number(at) + 8 * size);
+    return [...putOptions(options), at, BigInt(size)];
+  }
+
+  // what follows the texts of a run
   const PUTS = { eval: putOptions, eval_terms: putOptions, trace: putTraceOptions, trace_terms: putTraceOptions };
   PUTS.share_dot = ({ nodes }) => [nodes];
+  PUTS.profile = putProfile;
 
   function told(at) {
     const from = Number(at), of = view();
@@ -75,11 +85,14 @@ function callsOf(instance) {
     return { status: fault ? 3 : number, fault, at, out: fault ? new Uint8Array(0) : bytes().slice(out, out + length) };
   }
 
+  function countsAt(at, size) { return [...new BigUint64Array(exports.memory.buffer, at, size)]; }
+
   return function call(name, texts, options) {
     try {
       const given = texts.flatMap(put).concat(PUTS[name] ? PUTS[name](options) : []);
       const first = callWithin(FIRST_ROOM, name, given);
-      return answer(first.number === 2 ? callWithin(first.length, name, given) : first);
+      const found = answer(first.number === 2 ? callWithin(first.length, name, given) : first);
+      return name === 'profile' ? { ...found, counts: countsAt(...given.slice(-2).map(Number)) } : found;
     } catch (error) {
       if (error instanceof RangeError) return { status: 3, fault: FAULTS[3], at: null, out: new Uint8Array(0) };
       throw error;

@@ -1,11 +1,10 @@
-// A worker makes the runs that it is sent, one after the other, in an instance of its own.
-onmessage = ({ data: { module, runs } }) => {
+// A worker does one job, in an instance of the module.
+onmessage = ({ data: { module, name, asked } }) => {
   try {
-    const call = callsOf(new WebAssembly.Instance(module, {}));
-    const begin = performance.now();
-    const answers = runs.map(({ name, texts, options }) => call(name, texts, options));
-    postMessage({ answers, milliseconds: performance.now() - begin }, answers.map((it) => it.out.buffer));
+    const call = callsOf(new WebAssembly.Instance(module, {})), begin = performance.now();
+    const told = JOBS[name](call, asked), milliseconds = performance.now() - begin;
+    postMessage({ ...told, milliseconds }, told.out ? [told.out.buffer] : []);
   } catch (error) {
-    postMessage({ error: String(error) });
+    postMessage({ broken: String(error) });
   }
 };

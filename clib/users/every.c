@@ -50,7 +50,7 @@ static void prints(int line, psilt *p, psilt_term term, const char *want)
 /* What each call answers of a handle that is closed. */
 static void closed(void)
 {
-    psilt p = PSILT_INIT;
+    psilt p = PSILT_INIT, q = PSILT_INIT;
     uint32_t out = 77, kind = 77;
     int32_t value = 77;
     uint64_t taken = 77;
@@ -62,9 +62,12 @@ static void closed(void)
     SAME(PSILT_CLOSED, psilt_cells(&p, &out));
     SAME(PSILT_CLOSED, psilt_spare(&p, &out));
     SAME(PSILT_CLOSED, psilt_reserve(&p, 1));
+    SAME(PSILT_CLOSED, psilt_names(&p, &out));
+    SAME(PSILT_CLOSED, psilt_limit_names(&p, 1));
     SAME(PSILT_CLOSED, psilt_read(&p, bytes, 0, &out));
     SAME(PSILT_CLOSED, psilt_place(&p, &out));
     SAME(PSILT_CLOSED, psilt_print(&p, 0, &len));
+    SAME(PSILT_CLOSED, psilt_print_within(&p, 0, 9, &len));
     SAME(PSILT_CLOSED, psilt_text(&p, bytes, 1));
     SAME(PSILT_CLOSED, psilt_int(&p, 1, &out));
     SAME(PSILT_CLOSED, psilt_nil(&p, &out));
@@ -92,6 +95,8 @@ static void closed(void)
     SAME(PSILT_CLOSED, psilt_normalise(&p, 0, 1, &out, &taken));
     SAME(PSILT_CLOSED, psilt_eval_terms(&p, &out));
     SAME(PSILT_CLOSED, psilt_eval_term(&p, 0, &out));
+    SAME(PSILT_CLOSED, psilt_obey(&p, &q));
+    SAME(PSILT_CLOSED, psilt_interrupt(&p, true));
     SAME(PSILT_CLOSED, psilt_symbol(&p, bytes, 0, false, 0, &len));
     SAME(PSILT_CLOSED, psilt_apply(&p, 0, terms, 0, &out));
     SAME(PSILT_CLOSED, psilt_pattern(&p, bytes, 0, &len));
@@ -346,6 +351,268 @@ static void fills(void)
     SAME(PSILT_OK, psilt_cons(&p, one, nil, &out));
     SAME(list, out);
     SAME(PSILT_OK, psilt_close(&p));
+}
+
+/* Reads a text in a store of cap cells, which has the cells of that text then. */
+static void takes(int line, const char *text, uint32_t cap, uint32_t parts)
+{
+    psilt p = PSILT_INIT;
+    psilt_term term = 77, again = 77;
+    uint32_t cells = 77;
+    same(line, "psilt_open", PSILT_OK, psilt_open(&p, cap));
+    same(line, "psilt_read", PSILT_OK, psilt_read(&p, BYTES(text), &term));
+    same(line, "psilt_cells", PSILT_OK, psilt_cells(&p, &cells));
+    same(line, "cells", cap, cells);
+    /* a collection leaves the parts */
+    same(line, "psilt_reclaim", PSILT_OK, psilt_reclaim(&p, &term, 1));
+    same(line, "psilt_cells", PSILT_OK, psilt_cells(&p, &cells));
+    same(line, "parts", parts, cells);
+    same(line, "psilt_read", PSILT_OK, psilt_read(&p, BYTES(text), &again));
+    same(line, "the same term", term, again);
+    same(line, "psilt_close", PSILT_OK, psilt_close(&p));
+    /* one cell less is not enough */
+    if (cap == 1)
+        return;
+    again = 77;
+    same(line, "psilt_open", PSILT_OK, psilt_open(&p, cap - 1));
+    same(line, "psilt_read", PSILT_FULL, psilt_read(&p, BYTES(text), &again));
+    same(line, "out", 77, again);
+    same(line, "psilt_close", PSILT_OK, psilt_close(&p));
+}
+
+/* A part with annotations is first made without them, and `{}` makes `[]`. */
+static void takes_cells(void)
+{
+    psilt p = PSILT_INIT;
+    psilt_term term, kept, again = 77;
+    size_t pattern;
+    uint32_t cells = 77;
+    takes(__LINE__, "a{b}", 5, 4);
+    takes(__LINE__, "f(x){1}", 7, 6);
+    takes(__LINE__, "1{}", 2, 1);
+    takes(__LINE__, "1", 1, 1);
+    takes(__LINE__, "[]{}", 1, 1);
+    takes(__LINE__, "a{}", 2, 2);
+    takes(__LINE__, "[a]{b}", 6, 5);
+    takes(__LINE__, "a{a}", 4, 4);
+    takes(__LINE__, "[a{b},a]", 7, 7);
+    takes(__LINE__, "<7>{7}", 5, 4);
+    takes(__LINE__, "a{b{c}}", 8, 6);
+    /* a term that is there, whose part without annotations is not */
+    SAME(PSILT_OK, psilt_open(&p, 5));
+    term = reads(&p, "a{b}");
+    SAME(PSILT_OK, psilt_protect(&p, term));
+    SAME(PSILT_OK, psilt_reclaim(&p, &term, 0));
+    SAME(PSILT_OK, psilt_int(&p, 7, &kept));
+    SAME(PSILT_FULL, psilt_read(&p, BYTES("a{b}"), &again));
+    SAME(77, again);
+    SAME(PSILT_OK, psilt_holds(&p, term));
+    SAME(PSILT_OK, psilt_reclaim(&p, &kept, 0));
+    SAME(PSILT_OK, psilt_read(&p, BYTES("a{b}"), &again));
+    SAME(term, again);
+    SAME(PSILT_OK, psilt_close(&p));
+    /* a make of a pattern with annotations */
+    SAME(PSILT_OK, psilt_open(&p, 5));
+    SAME(PSILT_OK, psilt_pattern(&p, BYTES("a{b}"), &pattern));
+    SAME(PSILT_OK, psilt_make(&p, pattern, &kept, 0, &term));
+    PRINTS(term, "a{b}");
+    SAME(PSILT_OK, psilt_cells(&p, &cells));
+    SAME(5, cells);
+    SAME(PSILT_OK, psilt_close(&p));
+    SAME(PSILT_OK, psilt_open(&p, 4));
+    SAME(PSILT_OK, psilt_pattern(&p, BYTES("a{b}"), &pattern));
+    SAME(PSILT_FULL, psilt_make(&p, pattern, &kept, 0, &again));
+    SAME(PSILT_OK, psilt_close(&p));
+}
+
+static uint32_t names(psilt *p)
+{
+    uint32_t out = 77;
+    SAME(PSILT_OK, psilt_names(p, &out));
+    return out;
+}
+
+/* Which calls add names, that none is freed, and that there are no more than may be. */
+static void keeps_names(void)
+{
+    psilt p = PSILT_INIT;
+    psilt_term a, term = 77, value, pair[2];
+    size_t pattern, count, symbol = 4242, f;
+    uint64_t taken;
+    static const char spec[] = "REC-SPEC N SORTS S CONS z : -> S s : S -> S END-SPEC";
+    SAME(PSILT_OK, psilt_open(&p, 1000));
+    SAME(0, names(&p));
+    a = reads(&p, "f(a,\"a\",f,f(1),f(2)){a}");
+    /* a, "a", f of 0, 1 and 5 arguments */
+    SAME(5, names(&p));
+    SAME(PSILT_OK, psilt_appl(&p, BYTES("g"), false, &a, 1, &term));
+    SAME(6, names(&p));
+    SAME(PSILT_OK, psilt_symbol(&p, BYTES("g"), false, 2, &f));
+    SAME(7, names(&p));
+    SAME(PSILT_OK, psilt_symbol(&p, BYTES("g"), false, 2, &f));
+    SAME(PSILT_OK, psilt_pattern(&p, BYTES("h(<term>,<list>)"), &pattern));
+    SAME(7, names(&p));
+    SAME(PSILT_UNMATCHED, psilt_match(&p, pattern, a, &count));
+    SAME(7, names(&p));
+    pair[0] = a;
+    pair[1] = reads(&p, "[1,2]");
+    SAME(PSILT_OK, psilt_make(&p, pattern, pair, 2, &term));
+    SAME(8, names(&p));
+    SAME(PSILT_OK, psilt_spec(&p, BYTES(spec), 0, 100));
+    SAME(10, names(&p));
+    SAME(PSILT_SYNTAX, psilt_read(&p, BYTES("unread(,)"), &term));
+    SAME(10, names(&p));
+    SAME(PSILT_OK, psilt_reclaim(&p, &a, 0));
+    SAME(10, names(&p));
+    /* at the limit names that are there are taken, and no other ones */
+    SAME(PSILT_OK, psilt_limit_names(&p, 11));
+    SAME(PSILT_OK, psilt_appl(&p, BYTES("last"), false, &a, 0, &term));
+    SAME(11, names(&p));
+    term = 77;
+    SAME(PSILT_FULL, psilt_appl(&p, BYTES("new"), false, &a, 0, &term));
+    SAME(PSILT_FULL, psilt_appl(&p, BYTES("last"), true, &a, 0, &term));
+    SAME(PSILT_FULL, psilt_read(&p, BYTES("last(1)"), &term));
+    SAME(PSILT_FULL, psilt_read(&p, BYTES("[z,s(z),other]"), &term));
+    SAME(77, term);
+    SAME(PSILT_FULL, psilt_symbol(&p, BYTES("new"), false, 0, &symbol));
+    SAME(4242, symbol);
+    pair[0] = reads(&p, "a");
+    pair[1] = reads(&p, "[1]");
+    SAME(PSILT_FULL, psilt_make(&p, pattern, pair, 2, &term));
+    SAME(PSILT_FULL, psilt_spec(&p, BYTES("REC-SPEC M SORTS S CONS z : -> S y : -> S EVAL z END-SPEC"), 0, 100));
+    SAME(11, names(&p));
+    /* what was specified still is */
+    SAME(PSILT_OK, psilt_normalise(&p, reads(&p, "s(z)"), 9, &value, &taken));
+    SAME(PSILT_OK, psilt_symbol(&p, BYTES("g"), false, 2, &symbol));
+    SAME(f, symbol);
+    pair[0] = pair[1] = value;
+    SAME(PSILT_OK, psilt_apply(&p, f, pair, 2, &term));
+    PRINTS(term, "g(s(z),s(z))");
+    term = reads(&p, "f(\"a\",a,f,last,f(g(1)))");
+    PRINTS(term, "f(\"a\",a,f,last,f(g(1)))");
+    SAME(PSILT_OK, psilt_spec(&p, BYTES(spec), 0, 100));
+    SAME(11, names(&p));
+    /* a limit below what is there, and a higher one */
+    SAME(PSILT_OK, psilt_limit_names(&p, 0));
+    SAME(PSILT_OK, psilt_read(&p, BYTES("last"), &term));
+    SAME(PSILT_FULL, psilt_read(&p, BYTES("more"), &term));
+    SAME(PSILT_OK, psilt_limit_names(&p, 12));
+    SAME(PSILT_OK, psilt_read(&p, BYTES("more"), &term));
+    SAME(PSILT_FULL, psilt_read(&p, BYTES("too"), &term));
+    SAME(PSILT_OK, psilt_read(&p, BYTES("[more,last,f(f(f))]"), &term));
+    SAME(12, names(&p));
+    SAME(PSILT_OK, psilt_limit_names(&p, 4294967295u));
+    SAME(PSILT_OK, psilt_read(&p, BYTES("too(much)"), &term));
+    SAME(14, names(&p));
+    SAME(PSILT_OK, psilt_close(&p));
+    SAME(PSILT_OK, psilt_open(&p, 10));
+    SAME(0, names(&p));
+    SAME(PSILT_OK, psilt_close(&p));
+}
+
+/* Where several codes would fit, the first of the list in the header is answered. */
+static void orders_codes(void)
+{
+    psilt p = PSILT_INIT;
+    size_t pattern, symbol, none = 4242, count = 4242;
+    psilt_term list, stale = 4294967295u, out = 77, value = 77;
+    psilt_term both[2] = {4294967295u, 4294967295u}, wrong[2];
+    uint64_t taken = 77;
+    static uint8_t long_one[16777217];
+    SAME(PSILT_OK, psilt_open(&p, 100));
+    list = reads(&p, "[1]");
+    wrong[0] = list;
+    wrong[1] = stale;
+    SAME(PSILT_OK, psilt_pattern(&p, BYTES("f(<int>)"), &pattern));
+    SAME(PSILT_OK, psilt_symbol(&p, BYTES("f"), false, 1, &symbol));
+    /* opened, and a wrong number of cells */
+    SAME(PSILT_OPEN, psilt_open(&p, 0));
+    /* no such pattern or symbol, the wrong count, a stale reference, and a wrong kind */
+    SAME(PSILT_UNKNOWN, psilt_match(&p, none, stale, &count));
+    SAME(PSILT_UNKNOWN, psilt_make(&p, none, both, 2, &out));
+    SAME(PSILT_UNKNOWN, psilt_apply(&p, none, both, 2, &out));
+    SAME(PSILT_RANGE, psilt_make(&p, pattern, both, 2, &out));
+    SAME(PSILT_RANGE, psilt_apply(&p, symbol, both, 2, &out));
+    SAME(PSILT_RANGE, psilt_make(&p, pattern, both, 0, &out));
+    SAME(PSILT_RANGE, psilt_apply(&p, symbol, both, 0, &out));
+    SAME(PSILT_STALE, psilt_match(&p, pattern, stale, &count));
+    SAME(PSILT_STALE, psilt_make(&p, pattern, both, 1, &out));
+    SAME(PSILT_STALE, psilt_apply(&p, symbol, both, 1, &out));
+    SAME(PSILT_OK, psilt_pattern(&p, BYTES("f(<int>,<term>)"), &pattern));
+    SAME(PSILT_STALE, psilt_make(&p, pattern, wrong, 2, &out));
+    wrong[1] = list;
+    SAME(PSILT_KIND, psilt_make(&p, pattern, wrong, 2, &out));
+    /* a name, and a stale reference */
+    SAME(PSILT_NAME, psilt_appl(&p, BYTES("0"), false, both, 2, &out));
+    SAME(PSILT_STALE, psilt_appl(&p, BYTES("f"), false, both, 2, &out));
+    /* a stale reference, and a wrong kind */
+    SAME(PSILT_STALE, psilt_cons(&p, stale, reads(&p, "7"), &out));
+    SAME(PSILT_STALE, psilt_annotate(&p, stale, reads(&p, "7"), &out));
+    SAME(PSILT_STALE, psilt_arg(&p, stale, 9, &out));
+    SAME(PSILT_KIND, psilt_arg(&p, list, 9, &out));
+    /* nothing specified, a stale reference, and an integer */
+    SAME(PSILT_UNSPECIFIED, psilt_normalise(&p, stale, 0, &value, &taken));
+    SAME(PSILT_UNSPECIFIED, psilt_eval_term(&p, 4294967295u, &value));
+    SAME(PSILT_RANGE, psilt_spec(&p, BYTES("?"), 0, 0));
+    SAME(PSILT_RANGE, psilt_spec(&p, long_one, sizeof long_one, 0, 1));
+    SAME(PSILT_RANGE, psilt_read(&p, long_one, sizeof long_one, &out));
+    SAME(PSILT_RANGE, psilt_pattern(&p, long_one, sizeof long_one, &none));
+    SAME(PSILT_OK, psilt_spec(&p, BYTES("REC-SPEC E SORTS S CONS z : -> S EVAL z END-SPEC"), 0, 1));
+    SAME(PSILT_STALE, psilt_normalise(&p, stale, 0, &value, &taken));
+    SAME(PSILT_RULE, psilt_normalise(&p, list, 0, &value, &taken));
+    SAME(77, out);
+    SAME(77, value);
+    SAME(77, taken);
+    SAME(4242, count);
+    SAME(PSILT_OK, psilt_close(&p));
+    /* a full store, and each of those */
+    SAME(PSILT_OK, psilt_open(&p, 3));
+    list = reads(&p, "[1]");
+    SAME(PSILT_OK, psilt_limit_names(&p, 0));
+    SAME(PSILT_NAME, psilt_appl(&p, BYTES("0"), false, both, 2, &out));
+    SAME(PSILT_STALE, psilt_appl(&p, BYTES("f"), false, both, 2, &out));
+    SAME(PSILT_STALE, psilt_cons(&p, stale, list, &out));
+    SAME(PSILT_KIND, psilt_cons(&p, list, reads(&p, "1"), &out));
+    SAME(PSILT_SYNTAX, psilt_read(&p, BYTES("f(new"), &out));
+    SAME(PSILT_FULL, psilt_read(&p, BYTES("f(new)"), &out));
+    SAME(PSILT_NAME, psilt_symbol(&p, BYTES("0"), false, 0, &none));
+    SAME(PSILT_OK, psilt_pattern(&p, BYTES("f(<int>)"), &pattern));
+    SAME(PSILT_KIND, psilt_make(&p, pattern, &list, 1, &out));
+    SAME(PSILT_STALE, psilt_make(&p, pattern, both, 1, &out));
+    SAME(PSILT_OK, psilt_close(&p));
+}
+
+/* The longest text that is read again, and one that is longer. */
+static void prints_long_texts(void)
+{
+    static uint8_t name[16777215], text[16777217];
+    psilt p = PSILT_INIT;
+    psilt_term term, again = 77;
+    size_t len = 0;
+    SAME(PSILT_OK, psilt_open(&p, 100));
+    memset(name, 'n', sizeof name);
+    SAME(PSILT_OK, psilt_appl(&p, name, sizeof name - 1, true, &term, 0, &term));
+    SAME(PSILT_OK, psilt_print(&p, term, &len));
+    SAME(16777216, len);
+    SAME(PSILT_OK, psilt_text(&p, text, sizeof text));
+    SAME(PSILT_OK, psilt_read(&p, text, len, &again));
+    SAME(term, again);
+    again = 77;
+    SAME(PSILT_OK, psilt_appl(&p, name, sizeof name, true, &term, 0, &term));
+    SAME(PSILT_OK, psilt_print(&p, term, &len));
+    SAME(16777217, len);
+    SAME(PSILT_OK, psilt_text(&p, text, sizeof text));
+    SAME(PSILT_RANGE, psilt_read(&p, text, len, &again));
+    SAME(77, again);
+    SAME(PSILT_OK, psilt_close(&p));
+}
+
+static void has_versions(void)
+{
+    char version[40];
+    snprintf(version, sizeof version, "%d.%d.%d", PSILT_VERSION_MAJOR, PSILT_VERSION_MINOR, PSILT_VERSION_PATCH);
+    SAME(0, strcmp(version, psilt_version()));
+    SAME(PSILT_VERSION_NUMBER, psilt_version_number());
 }
 
 /* Addition, with two terms to evaluate. */
@@ -663,6 +930,102 @@ static void refuses_patterns(void)
     SAME(PSILT_OK, psilt_close(&p));
 }
 
+/* A print is done exactly if its text is no longer than the bound, and else the text before stays. */
+static void prints_within(void)
+{
+    psilt p = PSILT_INIT;
+    psilt_term term, pair[2];
+    size_t len = 4242, node;
+    int i;
+    SAME(PSILT_OK, psilt_open(&p, 1000));
+    term = reads(&p, "f(1,[a]{b},\"\\n\")");
+    SAME(PSILT_OK, psilt_print_within(&p, term, 16, &len));
+    is_text(__LINE__, &p, "f(1,[a]{b},\"\\n\")", len);
+    len = 4242;
+    SAME(PSILT_RANGE, psilt_print_within(&p, reads(&p, "abc"), 2, &len));
+    SAME(PSILT_RANGE, psilt_print_within(&p, term, 15, &len));
+    SAME(PSILT_RANGE, psilt_print_within(&p, term, 0, &len));
+    SAME(PSILT_STALE, psilt_print_within(&p, 4294967295u, 0, &len));
+    SAME(4242, len);
+    is_text(__LINE__, &p, "f(1,[a]{b},\"\\n\")", 16);
+    SAME(PSILT_OK, psilt_print_within(&p, term, SIZE_MAX, &len));
+    SAME(16, len);
+    SAME(PSILT_OK, psilt_symbol(&p, BYTES("node"), false, 2, &node));
+    for (i = 0; i < 60; i++) {
+        pair[0] = pair[1] = term;
+        SAME(PSILT_OK, psilt_apply(&p, node, pair, 2, &term));
+    }
+    SAME(PSILT_RANGE, psilt_print_within(&p, term, 1000000, &len));
+    SAME(16, len);
+    SAME(PSILT_OK, psilt_close(&p));
+}
+
+/* A request stands until it is withdrawn, and ends the evaluations of the handles that obey. */
+static void stops(void)
+{
+    psilt p = PSILT_INIT, other = PSILT_INIT, stop = PSILT_INIT, second = PSILT_INIT;
+    psilt_term term, value = 4242, kept;
+    uint64_t taken = 4242;
+    uint32_t place, rule;
+    static const char loop[] = "REC-SPEC Loop SORTS S CONS a : -> S OPNS f : S -> S g : S -> S VARS X : S "
+                               "RULES f(X) -> f(g(X)) g(X) -> X END-SPEC";
+    SAME(PSILT_OK, psilt_open(&p, 1000));
+    SAME(PSILT_CLOSED, psilt_obey(&p, &stop));
+    SAME(PSILT_OK, psilt_open(&stop, 1));
+    SAME(PSILT_OK, psilt_open(&second, 1));
+    SAME(PSILT_OK, psilt_open(&other, 1000));
+    SAME(PSILT_OK, psilt_interrupt(&stop, true));
+    SAME(PSILT_OK, psilt_interrupt(&stop, false));
+    SAME(PSILT_OK, psilt_obey(&p, &stop));
+    SAME(PSILT_OK, psilt_obey(&p, &stop));
+    SAME(PSILT_OK, psilt_spec(&p, BYTES(loop), 0, 100));
+    SAME(PSILT_OK, psilt_spec(&other, BYTES(loop), 0, 100));
+    term = reads(&p, "f(a){note}");
+    kept = reads(&p, "h([1,2],f(a))");
+    SAME(PSILT_OK, psilt_protect(&p, kept));
+    SAME(PSILT_SYNTAX, psilt_read(&p, BYTES("f(,"), &value));
+    SAME(PSILT_LIMIT, psilt_normalise(&p, term, 300000, &value, &taken));
+    SAME(PSILT_OK, psilt_interrupt(&stop, true));
+    SAME(PSILT_INTERRUPTED, psilt_normalise(&p, term, 18446744073709551615u, &value, &taken));
+    SAME(PSILT_INTERRUPTED, psilt_normalise(&p, term, 65537, &value, &taken));
+    SAME(4242, value);
+    SAME(4242, taken);
+    SAME(PSILT_OK, psilt_place(&p, &place));
+    SAME(2, place);
+    SAME(PSILT_OK, psilt_rule(&p, &rule));
+    SAME(0, rule);
+    PRINTS(term, "f(a){note}");
+    PRINTS(kept, "h([1,2],f(a))");
+    /* one of few steps reports nothing, and one that is not evaluated has its own code */
+    SAME(PSILT_OK, psilt_normalise(&p, reads(&p, "g(a)"), 2, &value, &taken));
+    PRINTS(value, "a");
+    SAME(1, taken);
+    SAME(PSILT_RULE, psilt_normalise(&p, reads(&p, "h"), 2, &value, &taken));
+    SAME(PSILT_STALE, psilt_normalise(&p, 4294967295u, 2, &value, &taken));
+    SAME(PSILT_LIMIT, psilt_normalise(&other, reads(&other, "f(a)"), 300000, &value, &taken));
+    SAME(PSILT_OK, psilt_obey(&other, &stop));
+    term = reads(&other, "f(a)");
+    SAME(PSILT_INTERRUPTED, psilt_normalise(&other, term, 300000, &value, &taken));
+    /* who obeys another handle does not obey the first one */
+    SAME(PSILT_OK, psilt_obey(&other, &second));
+    SAME(PSILT_LIMIT, psilt_normalise(&other, term, 300000, &value, &taken));
+    SAME(PSILT_OK, psilt_interrupt(&second, true));
+    SAME(PSILT_INTERRUPTED, psilt_normalise(&other, term, 300000, &value, &taken));
+    SAME(PSILT_OK, psilt_interrupt(&second, false));
+    SAME(PSILT_LIMIT, psilt_normalise(&other, term, 300000, &value, &taken));
+    SAME(PSILT_OK, psilt_close(&other));
+    SAME(PSILT_OK, psilt_interrupt(&second, true));
+    /* a request stands when its handle is closed, and none ends it then but another handle */
+    SAME(PSILT_OK, psilt_close(&stop));
+    term = reads(&p, "f(a)");
+    SAME(PSILT_INTERRUPTED, psilt_normalise(&p, term, 300000, &value, &taken));
+    SAME(PSILT_OK, psilt_interrupt(&second, false));
+    SAME(PSILT_OK, psilt_obey(&p, &second));
+    SAME(PSILT_LIMIT, psilt_normalise(&p, term, 300000, &value, &taken));
+    SAME(PSILT_OK, psilt_close(&second));
+    SAME(PSILT_OK, psilt_close(&p));
+}
+
 int main(void)
 {
     uint32_t code;
@@ -673,13 +1036,20 @@ int main(void)
     reads_texts();
     keeps();
     fills();
+    takes_cells();
+    keeps_names();
+    orders_codes();
+    prints_long_texts();
+    has_versions();
     evaluates();
     judges();
     gives_up();
     applies();
     matches();
     refuses_patterns();
-    for (code = PSILT_OK; code <= PSILT_UNKNOWN; code++)
+    prints_within();
+    stops();
+    for (code = PSILT_OK; code <= PSILT_INTERRUPTED; code++)
         SAME(0, strcmp(psilt_errstr(code), "no code of this library") == 0);
     SAME(0, strcmp(psilt_errstr(4294967295u), "no code of this library"));
     if (failures)

@@ -7,10 +7,11 @@
 import ast
 import os
 import sys
+from typing import Dict
 
 sys.path.insert(0, os.path.dirname(os.path.dirname(os.path.realpath(__file__))))
 
-from percalesilt import Store
+from percalesilt import Store, Term
 
 RULES = """
 REC-SPEC Logic
@@ -41,10 +42,10 @@ RULES
   not(not(X)) -> X
 END-SPEC
 """
-JOINED = {ast.And: "and", ast.Or: "or"}
+JOINED: Dict[type, str] = {ast.And: "and", ast.Or: "or"}
 
 
-def term_of(store, node):
+def term_of(store: Store, node: ast.expr) -> Term:
     """The term of a condition of names, True, False, `and`, `or` and `not`."""
     if isinstance(node, ast.BoolOp):
         *others, last = (term_of(store, it) for it in node.values)
@@ -60,7 +61,7 @@ def term_of(store, node):
     raise ValueError(f"not simplified: {ast.unparse(node)}")
 
 
-def node_of(term):
+def node_of(term: Term) -> ast.expr:
     """The condition of a term."""
     if term.name in ("true", "false"):
         return ast.Constant(term.name == "true")
@@ -71,7 +72,7 @@ def node_of(term):
     return ast.BoolOp(ast.And() if term.name == "and" else ast.Or(), [node_of(it) for it in term.args])
 
 
-def simplify(text):
+def simplify(text: str) -> str:
     tree = ast.parse(text, mode="eval").body
     names = sorted({it.id for it in ast.walk(tree) if isinstance(it, ast.Name)})
     with Store() as store:

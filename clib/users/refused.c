@@ -137,13 +137,28 @@ static uint32_t calls(psilt *p, int call, uint32_t *out)
     case 17: return psilt_match(p, pattern, terms[2], &len);
     case 18: return psilt_make(p, pattern, &terms[2], 1, out);
     case 19: return psilt_make(p, whole, inside, 3, out);
+    case 20:
+        /* at the limit a second table of the names is made, to find this one */
+        code = psilt_limit_names(p, 0);
+        return code == PSILT_OK ? psilt_symbol(p, BYTES("g"), false, 2, &number) : code;
+    case 21: return psilt_print_within(p, terms[0], 100, &len);
+    case 22:
+        other = fresh;
+        refused_at = -refused_at;
+        code = psilt_open(&other, 1000);
+        refused_at = -refused_at;
+        asked = 0;
+        if (code == PSILT_OK)
+            code = psilt_obey(p, &other);
+        psilt_close(&other);
+        return code;
     default: return psilt_nil(p, out);
     }
 }
 
 static const char *const NAMES[] = {"open", "read", "print", "name", "int", "cons", "appl", "hole", "annotate",
     "reserve", "reclaim", "spec", "normalise", "eval_term", "symbol", "apply", "pattern", "match", "make", "whole",
-    "nil"};
+    "known", "print_within", "obey", "nil"};
 
 static void fails(const char *what, const char *name, long n)
 {
@@ -196,6 +211,44 @@ static bool is_tried(int call, long n)
     return reached;
 }
 
+/* Codes that are asked before memory is requested. */
+static void asks_first(void)
+{
+    static uint8_t text[16777217];
+    psilt p = PSILT_INIT;
+    size_t number = 0;
+    psilt_term out = 0, none = 4294967295u;
+    uint64_t taken;
+    bool right;
+    if (!begin(&p))
+        fails("no beginning", "codes", 0);
+    memset(text, ' ', sizeof text);
+    refused_at = 1;
+#define FIRST(call) (asked = 0, call)
+    right = FIRST(psilt_read(&p, text, sizeof text, &out)) == PSILT_RANGE
+        && FIRST(psilt_pattern(&p, text, sizeof text, &number)) == PSILT_RANGE
+        && FIRST(psilt_spec(&p, text, sizeof text, 0, 1)) == PSILT_RANGE
+        && FIRST(psilt_spec(&p, text, 1, 0, 0)) == PSILT_RANGE
+        && FIRST(psilt_appl(&p, BYTES("0"), false, &none, 1, &out)) == PSILT_NAME
+        && FIRST(psilt_appl(&p, BYTES("new"), false, &none, 1, &out)) == PSILT_STALE
+        && FIRST(psilt_symbol(&p, BYTES("0"), false, 1, &number)) == PSILT_NAME
+        && FIRST(psilt_apply(&p, 99, &none, 1, &out)) == PSILT_UNKNOWN
+        && FIRST(psilt_apply(&p, symbol, &none, 1, &out)) == PSILT_RANGE
+        && FIRST(psilt_match(&p, 99, none, &number)) == PSILT_UNKNOWN
+        && FIRST(psilt_match(&p, pattern, none, &number)) == PSILT_STALE
+        && FIRST(psilt_make(&p, 99, &none, 1, &out)) == PSILT_UNKNOWN
+        && FIRST(psilt_make(&p, pattern, &none, 0, &out)) == PSILT_RANGE
+        && FIRST(psilt_make(&p, pattern, &none, 1, &out)) == PSILT_STALE
+        && FIRST(psilt_reclaim(&p, &none, 1)) == PSILT_STALE
+        && FIRST(psilt_normalise(&p, none, 1, &out, &taken)) == PSILT_STALE
+        && FIRST(psilt_print(&p, none, &number)) == PSILT_STALE
+        && FIRST(psilt_print_within(&p, none, 9, &number)) == PSILT_STALE;
+    refused_at = 0;
+    if (!right)
+        fails("another code comes first", "codes", 1);
+    psilt_close(&p);
+}
+
 int main(void)
 {
     int call, i;
@@ -203,7 +256,8 @@ int main(void)
     for (i = 0; i < 2499; i++)
         memcpy(long_text + 2 * i, i == 2498 ? "7]" : i == 0 ? "[1" : ",7", 2);
     memset(long_name, 'n', sizeof long_name);
-    for (call = 0; call < 21; call++)
+    asks_first();
+    for (call = 0; call < 24; call++)
         for (n = 1; is_tried(call, n); n++)
             tried++;
     if (failures)

@@ -9,16 +9,17 @@ A subexpression that comes again is one term, and is simplified once.
 import ast
 import os
 import sys
+from typing import Dict, Optional
 
 sys.path.insert(0, os.path.dirname(os.path.dirname(os.path.realpath(__file__))))
 
-from percalesilt import APPL, INT, Store
+from percalesilt import APPL, INT, Store, Term
 
-SIGNS = {ast.Add: "add", ast.Sub: "sub", ast.Mult: "mul"}
+SIGNS: Dict[type, str] = {ast.Add: "add", ast.Sub: "sub", ast.Mult: "mul"}
 SPELT = {"add": "+", "sub": "-", "mul": "*"}
 
 
-def term_of(store, node):
+def term_of(store: Store, node: ast.expr) -> Term:
     """The term of an expression of names, integers, +, - and *; other names are quoted."""
     if isinstance(node, ast.BinOp) and type(node.op) in SIGNS:
         return store.appl(SIGNS[type(node.op)], term_of(store, node.left), term_of(store, node.right))
@@ -27,11 +28,11 @@ def term_of(store, node):
     if isinstance(node, ast.Constant) and type(node.value) is int:
         return store.int(node.value)
     if isinstance(node, ast.Name):
-        return store.appl("name", store.appl(node.id.encode(), quoted=True))
+        return store.appl("name", store.appl(node.id, quoted=True))
     raise ValueError(f"not simplified: {ast.unparse(node)}")
 
 
-def rule(store, name, left, right):
+def rule(store: Store, name: str, left: Term, right: Term) -> Optional[Term]:
     """What the first rule that fits makes of an operation on simplified operands, or None."""
     zero, one = store.int(0), store.int(1)
     if left.kind == INT and right.kind == INT:
@@ -47,7 +48,7 @@ def rule(store, name, left, right):
     return None
 
 
-def simplified(store, term, known):
+def simplified(store: Store, term: Term, known: Dict[Term, Term]) -> Term:
     """The simplest term that the rules make of it; `known` remembers that of each one."""
     if term not in known:
         known[term] = term
@@ -57,16 +58,16 @@ def simplified(store, term, known):
     return known[term]
 
 
-def text_of(term):
+def text_of(term: Term) -> str:
     if term.kind == INT:
         return str(term.value)
     if term.name == "name":
-        return term.args[0].name.encode("latin-1").decode()
+        return term.args[0].name
     left, right = map(text_of, term.args)
     return f"({left} {SPELT[term.name]} {right})"
 
 
-def simplify(text):
+def simplify(text: str) -> str:
     with Store() as store:
         term = term_of(store, ast.parse(text, mode="eval").body)
         return ast.unparse(ast.parse(text_of(simplified(store, term, {})), mode="eval"))

@@ -1,4 +1,4 @@
-//! The table of names and the arena of cells.
+//! Tests of the table of names, the arena and the collector.
 
 ghost use Rattle.std.specs.Prelude.{◌<◌, ℕ, IfOk, OnOk, length};
 ghost use Rattle.rx_arena.specs.Arena.{IsTaken};
@@ -13,19 +13,19 @@ use rx_arena::{ArenaFault, CellBody, Slot};
 use rx_names::Names;
 use rx_sweep::collect;
 
-/// A name that is there before.
+/// A name that has a symbol before.
 const KNOWN: &[u8] = b"a";
 
-/// A name that is given its symbol.
+/// A name that gets a symbol.
 const NEW: &[u8] = b"b";
 
-/// A name is given its symbol.
+/// Adds a symbol.
 pub fn try_intern(report: &mut Report) -> Option<()> {
     let mut names = heap_answer(report.alloc, Names::new(report.alloc))?;
     intern_twice(&mut *names, report)
 }
 
-/// Gives it twice, beside a known one; memory may be refused the first time.
+/// Adds it twice, next to a known one; allocations may fail the first time.
 fn intern_twice(names: &mut Names, report: &mut Report) -> Option<()> {
     let known = names.intern(KNOWN, true, 0).ok()?;
     intern_once(names, report);
@@ -38,7 +38,7 @@ fn intern_twice(names: &mut Names, report: &mut Report) -> Option<()> {
     Some(())
 }
 
-/// Gives it where memory may be refused.
+/// Adds it while allocations may fail.
 fn intern_once(names: &mut Names, report: &mut Report) {
     report.begin();
     if !report.tell(names.intern(NEW, true, 0)) {
@@ -46,7 +46,7 @@ fn intern_once(names: &mut Names, report: &mut Report) {
     }
 }
 
-/// What a cell of this number says, which has no parts.
+/// Returns the body of a cell without parts.
 fn body(number: u32) -> CellBody {
     CellBody {
         kind: 0,
@@ -57,7 +57,7 @@ fn body(number: u32) -> CellBody {
     }
 }
 
-/// Takes a cell and puts it into a chain.
+/// Allocates a cell and links it into a chain.
 fn link(arena: &mut Arena, number: u32) -> Option<()> {
     let slot = arena.take(body(number)).ok()?;
     let chains = arena.chains();
@@ -67,7 +67,7 @@ fn link(arena: &mut Arena, number: u32) -> Option<()> {
     Some(())
 }
 
-/// Takes cells until the next one needs memory.
+/// Allocates cells until the next one needs memory.
 fn fill(arena: &mut Arena) -> Option<()> {
     for number in 0..CELLS {
         if number > 0 && arena.spare() == 0 {
@@ -78,7 +78,7 @@ fn fill(arena: &mut Arena) -> Option<()> {
     Some(())
 }
 
-/// Adds the words and the counts of all cells.
+/// Appends the words and the protection counts of all cells.
 fn add_content(arena: &Arena, words: &mut Vec<(u64, u16)>) -> Option<()> {
     for number in 0..CELLS {
         let slot = Slot(number);
@@ -89,7 +89,7 @@ fn add_content(arena: &Arena, words: &mut Vec<(u64, u16)>) -> Option<()> {
     Some(())
 }
 
-/// An arena is made.
+/// Makes an arena.
 pub fn try_new(report: &mut Report) -> Option<()> {
     report.begin();
     report.tell(Arena::new(report.alloc, CELLS, 4));
@@ -98,14 +98,14 @@ pub fn try_new(report: &mut Report) -> Option<()> {
     Some(())
 }
 
-/// A call of an arena whose next cell needs memory.
+/// Tests an arena whose next cell needs memory.
 pub fn try_filled(call: &str, report: &mut Report) -> Option<()> {
     let mut arena = heap_answer(report.alloc, Arena::new(report.alloc, CELLS, 4))?;
     let mut before = Vec::new(report.alloc);
     fill_and_try(call, &mut *arena, &mut before, report)
 }
 
-/// Fills it, notes what it holds before, and tries the call.
+/// Fills it, records its contents, and runs the test.
 fn fill_and_try(
     call: &str,
     arena: &mut Arena,
@@ -122,7 +122,7 @@ fn fill_and_try(
     }
 }
 
-/// Says whether the cells are those from before.
+/// Prints whether the cells are unchanged.
 fn compare(arena: &Arena, before: &Vec<(u64, u16)>, report: &mut Report) -> Option<()> {
     let mut now = Vec::new(report.alloc);
     add_content(arena, &mut now)?;
@@ -130,7 +130,7 @@ fn compare(arena: &Arena, before: &Vec<(u64, u16)>, report: &mut Report) -> Opti
     Some(())
 }
 
-/// Takes a cell that needs memory, and once more where that was refused.
+/// Allocates a cell that needs memory, and again if that failed.
 fn take_twice(arena: &mut Arena, before: &Vec<(u64, u16)>, report: &mut Report) -> Option<()> {
     report.begin();
     if !report.tell(arena.take(body(CELLS))) {
@@ -141,17 +141,17 @@ fn take_twice(arena: &mut Arena, before: &Vec<(u64, u16)>, report: &mut Report) 
     Some(())
 }
 
-/// Makes room for cells twice; memory may be refused the first time.
+/// Reserves room for cells twice; allocations may fail the first time.
 fn reserve_twice(arena: &mut Arena, before: &Vec<(u64, u16)>, report: &mut Report) -> Option<()> {
     report.begin();
     report.tell(arena.reserve(CELLS / 2));
     compare(arena, before, report)?;
     arena.reserve(CELLS / 2).ok()?;
-    report.say(arena.spare() >= CELLS / 2, "room for as many");
+    report.say(arena.spare() >= CELLS / 2, "room for them");
     Some(())
 }
 
-/// Deals the cells out to more chains twice; memory may be refused the first time.
+/// Distributes the cells over more chains twice; allocations may fail the first time.
 fn rehash_twice(arena: &mut Arena, before: &Vec<(u64, u16)>, report: &mut Report) -> Option<()> {
     report.begin();
     if !report.tell(arena.rehash_into(64)) {
@@ -163,7 +163,7 @@ fn rehash_twice(arena: &mut Arena, before: &Vec<(u64, u16)>, report: &mut Report
     Some(())
 }
 
-/// Takes a cell whose parts are there, and puts it into the first chain.
+/// Allocates a cell whose parts exist, and links it into the first chain.
 fn link_first(arena: &mut Arena, body: CellBody) -> Result<Slot, ArenaFault>
     requires ready { CanCollect arena.old }
     requires chains { 0 < length arena.old.chains }
@@ -177,7 +177,7 @@ fn link_first(arena: &mut Arena, body: CellBody) -> Result<Slot, ArenaFault>
     Ok(slot)
 }
 
-/// A cell without parts, in the first chain.
+/// Allocates a cell without parts, in the first chain.
 fn leaf(arena: &mut Arena) -> Result<Slot, ArenaFault>
     requires ready { CanCollect arena.old }
     requires chains { 0 < length arena.old.chains }
@@ -195,7 +195,7 @@ fn leaf(arena: &mut Arena) -> Result<Slot, ArenaFault>
     link_first(arena, body)
 }
 
-/// Three cells, of which the last one is protected.
+/// Allocates three cells, the last of which is protected.
 fn take_leaves(arena: &mut Arena) -> Result<(), ArenaFault>
     requires ready { CanCollect arena.old }
     requires chains { 0 < length arena.old.chains }
@@ -208,7 +208,7 @@ fn take_leaves(arena: &mut Arena) -> Result<(), ArenaFault>
     Ok(())
 }
 
-/// A collection asks for no memory.
+/// Runs a collection, which must not allocate.
 pub fn try_collect(report: &mut Report) -> Option<()> {
     let mut arena = Arena::new(report.alloc, CELLS, 4).ok()?;
     collect_leaves(&mut arena, report).ok()

@@ -1,4 +1,4 @@
-//! Makes of a bank, of which each growth may be refused; and its calls that ask for no memory.
+//! Tests of term stores: operations that may allocate, and operations that may not.
 
 use crate::CELLS;
 use crate::needs::{heap_answer, read_held};
@@ -10,7 +10,7 @@ use rx_term::{BankFault, Kind, Symbol, Term, TermBank};
 use rx_text::write;
 use std::alloc::Global;
 
-/// A call that may want memory.
+/// An operation that may allocate.
 #[derive(Clone, Copy)]
 pub enum Call {
     Int,
@@ -23,7 +23,7 @@ pub enum Call {
     Reserve,
 }
 
-/// What a call has made.
+/// The result of an operation.
 #[derive(Clone, Copy)]
 enum Made {
     Tree(Term),
@@ -31,11 +31,11 @@ enum Made {
     Room,
 }
 
-/// It has 14 parts: itself, `[b]`, `b`, `[]`, `[g(a),[1,<7>]]`, `[[1,<7>]]`, `g(a)`, `[a]`, `a`,
-/// `[1,<7>]`, `[<7>]`, `1`, `<7>` and `7`.
+/// The text of a term with 14 cells: itself, `[b]`, `b`, `[]`, `[g(a),[1,<7>]]`, `[[1,<7>]]`,
+/// `g(a)`, `[a]`, `a`, `[1,<7>]`, `[<7>]`, `1`, `<7>` and `7`.
 pub const KEPT: &[u8] = b"f(g(a),[1,<7>]){b}";
 
-/// It has no list among its two parts.
+/// The text of a term with two cells, neither of which is a list.
 const WITHOUT_LISTS: &[u8] = b"<7>";
 
 /// Makes the term of a text, protects it once, and fills the cells that need no memory.
@@ -58,7 +58,7 @@ fn fill<B: TermBank>(bank: &mut B) -> Result<(), BankFault> {
     Ok(())
 }
 
-/// Adds the text of each cell, by its number.
+/// Appends the text of each cell, by its number.
 pub fn add_content<B: TermBank>(alloc: Global, bank: &B, text: &mut Vec<u8>) -> Option<()> {
     let mut found = 0u32;
     for number in 0..CELLS {
@@ -68,7 +68,7 @@ pub fn add_content<B: TermBank>(alloc: Global, bank: &B, text: &mut Vec<u8>) -> 
         }
         text.push(b'\n').ok()?;
     }
-    // Otherwise a cell has a number past the limit.
+    // Otherwise some cell has a number above the limit.
     if found == bank.cells() {
         Some(())
     } else {
@@ -76,7 +76,7 @@ pub fn add_content<B: TermBank>(alloc: Global, bank: &B, text: &mut Vec<u8>) -> 
     }
 }
 
-/// Makes what the call says; all that it is made of is there before.
+/// Runs the operation. Everything that it uses exists before.
 fn attempt<B: TermBank>(bank: &mut B, call: Call) -> Result<Made, BankFault> {
     match call {
         Call::Int => bank.int(77).map(Made::Tree),
@@ -90,14 +90,14 @@ fn attempt<B: TermBank>(bank: &mut B, call: Call) -> Result<Made, BankFault> {
     }
 }
 
-/// `[1]`.
+/// Makes `[1]`.
 fn list_of_one<B: TermBank>(bank: &mut B) -> Result<Term, BankFault> {
     let nil = bank.nil()?;
     let one = bank.int(1)?;
     bank.cons(one, nil)
 }
 
-/// `g(b)`.
+/// Makes `g(b)`.
 fn application<B: TermBank>(bank: &mut B) -> Result<Term, BankFault> {
     let b = constant(bank, b"b")?;
     let nil = bank.nil()?;
@@ -106,13 +106,13 @@ fn application<B: TermBank>(bank: &mut B) -> Result<Term, BankFault> {
     bank.appl(g, args)
 }
 
-/// `<1>`.
+/// Makes `<1>`.
 fn held_open<B: TermBank>(bank: &mut B) -> Result<Term, BankFault> {
     let one = bank.int(1)?;
     bank.hole(one)
 }
 
-/// `1{b}`.
+/// Makes `1{b}`.
 fn annotated_integer<B: TermBank>(bank: &mut B) -> Result<Term, BankFault> {
     let b = constant(bank, b"b")?;
     let nil = bank.nil()?;
@@ -121,7 +121,7 @@ fn annotated_integer<B: TermBank>(bank: &mut B) -> Result<Term, BankFault> {
     bank.annotated(one, notes)
 }
 
-/// Says what was made.
+/// Prints the result.
 fn show_made<B: TermBank>(bank: &mut B, made: Made, report: &mut Report) {
     match made {
         Made::Tree(t) => report.show(bank, t),
@@ -129,11 +129,11 @@ fn show_made<B: TermBank>(bank: &mut B, made: Made, report: &mut Report) {
             let is_same = bank.symbol(b"new", false, 3) == Ok(symbol);
             report.say(is_same, "the same symbol");
         }
-        Made::Room => report.say(bank.spare() >= CELLS / 2, "room for as many"),
+        Made::Room => report.say(bank.spare() >= CELLS / 2, "room for them"),
     }
 }
 
-/// How often a term can still be protected.
+/// Returns how often a term can still be protected.
 fn protections_left<B: TermBank>(bank: &mut B, t: Term) -> u64 {
     for count in 0..70_000 {
         if !bank.holds(t) || bank.protect(t).is_err() {
@@ -143,7 +143,7 @@ fn protections_left<B: TermBank>(bank: &mut B, t: Term) -> u64 {
     70_000
 }
 
-/// Gives up all but what is protected, and says how much is left.
+/// Frees all cells except the protected ones, and prints their number.
 pub fn show_roots<B: TermBank>(bank: &mut B, kept: Term, report: &mut Report) {
     report.count(protections_left(bank, kept), "protections left");
     bank.reclaim(&[]);
@@ -151,7 +151,7 @@ pub fn show_roots<B: TermBank>(bank: &mut B, kept: Term, report: &mut Report) {
     report.count(u64::from(bank.cells()), "cells kept");
 }
 
-/// Says whether the cells are those from before.
+/// Prints whether the cells are unchanged.
 pub fn compare<B: TermBank>(bank: &B, before: &Vec<u8>, report: &mut Report) -> Option<()> {
     let mut now = Vec::new(report.alloc);
     add_content(report.alloc, bank, &mut now)?;
@@ -159,7 +159,7 @@ pub fn compare<B: TermBank>(bank: &B, before: &Vec<u8>, report: &mut Report) -> 
     Some(())
 }
 
-/// A call that may be refused, what stands then, and the same call again.
+/// Runs an operation that may fail, prints the state, and runs it again.
 pub fn try_call<B: TermBank>(bank: &mut B, call: Call, report: &mut Report) -> Option<()> {
     let text = match call {
         Call::Nil => WITHOUT_LISTS,
@@ -173,7 +173,7 @@ pub fn try_call<B: TermBank>(bank: &mut B, call: Call, report: &mut Report) -> O
     Some(())
 }
 
-/// Makes the call where it may be refused, and says what stands then.
+/// Runs the operation while allocations may fail, and prints the state.
 fn call_once<B: TermBank>(bank: &mut B, call: Call, report: &mut Report) -> Option<()> {
     let mut before = Vec::new(report.alloc);
     add_content(report.alloc, bank, &mut before)?;
@@ -185,7 +185,7 @@ fn call_once<B: TermBank>(bank: &mut B, call: Call, report: &mut Report) -> Opti
     }
 }
 
-/// A plain bank is made.
+/// Makes a plain store.
 pub fn try_new_plain(report: &mut Report) -> Option<()> {
     report.begin();
     report.tell(PlainBank::new(report.alloc, CELLS));
@@ -194,7 +194,7 @@ pub fn try_new_plain(report: &mut Report) -> Option<()> {
     Some(())
 }
 
-/// A shared bank is made.
+/// Makes a shared store.
 pub fn try_new_shared(report: &mut Report) -> Option<()> {
     report.begin();
     report.tell(SharedBank::new(report.alloc, CELLS));
@@ -211,13 +211,13 @@ fn make_integers<B: TermBank>(bank: &mut B) -> Result<(), BankFault> {
     Ok(())
 }
 
-/// Eleven hundred integers, more than a shared bank has chains at first.
+/// Makes 1,100 integers, more than a shared store has chains at first.
 pub fn try_thousand(report: &mut Report) -> Option<()> {
     let mut bank = heap_answer(report.alloc, SharedBank::new(report.alloc, 2000))?;
     make_integers_twice(&mut *bank, report)
 }
 
-/// Makes them twice; memory may be refused the first time.
+/// Makes them twice; allocations may fail the first time.
 fn make_integers_twice<B: TermBank>(bank: &mut B, report: &mut Report) -> Option<()> {
     report.begin();
     report.tell(make_integers(bank));
@@ -226,13 +226,13 @@ fn make_integers_twice<B: TermBank>(bank: &mut B, report: &mut Report) -> Option
     Some(())
 }
 
-/// How many cells a broad bank may have; and half of that, which it is to have room for.
+/// The capacity of a large store, and the room of half its cells that the test reserves.
 const BROAD: u32 = 200_000;
 
 const HALF: u32 = BROAD / 2;
 
-/// Twenty thousand integers, a symbol of this name, and room for as many cells as half of a broad
-/// bank has.
+/// Makes 20,000 integers and a symbol with this name, and reserves room for half the cells of a
+/// large store.
 fn make_broad<B: TermBank>(bank: &mut B, name: &[u8]) -> Result<(), BankFault> {
     for z in 0..20_000 {
         bank.int(z)?;
@@ -241,29 +241,30 @@ fn make_broad<B: TermBank>(bank: &mut B, name: &[u8]) -> Result<(), BankFault> {
     bank.reserve(HALF)
 }
 
-/// Makes them, with a name of a hundred thousand bytes: where there is memory, nothing is refused.
+/// Makes a large store with a name of 100,000 bytes. If there is memory, nothing fails.
 fn try_broad<B: TermBank>(bank: &mut B, report: &mut Report) -> Option<()> {
     let name = vec![in report.alloc; b'n'; 100_000].ok()?;
     report.begin();
     report.tell(make_broad(bank, &name));
     report.count(u64::from(bank.cells()), "cells");
-    report.say(bank.spare() >= HALF, "room for as many");
+    report.say(bank.spare() >= HALF, "room for them");
     Some(())
 }
 
-/// A broad plain bank.
+/// Tests a large plain store.
 pub fn try_broad_plain(report: &mut Report) -> Option<()> {
     let mut bank = heap_answer(report.alloc, PlainBank::new(report.alloc, BROAD))?;
     try_broad(&mut *bank, report)
 }
 
-/// A broad shared bank.
+/// Tests a large shared store.
 pub fn try_broad_shared(report: &mut Report) -> Option<()> {
     let mut bank = heap_answer(report.alloc, SharedBank::new(report.alloc, BROAD))?;
     try_broad(&mut *bank, report)
 }
 
-/// Reads each part of a tree, down its first items, arguments and inner trees.
+/// Walks down a tree by first elements, arguments and contents of placeholders. Returns the number
+/// of levels.
 fn read_down<B: TermBank>(bank: &B, t: Term) -> u32 {
     let mut at = t;
     for depth in 0..100 {
@@ -285,7 +286,7 @@ fn read_down<B: TermBank>(bank: &B, t: Term) -> u32 {
     100
 }
 
-/// The calls that read ask for no memory.
+/// Calls the functions that read, which must not allocate.
 pub fn try_readers<B: TermBank>(bank: &mut B, report: &mut Report) -> Option<()> {
     let kept = set_up(report.alloc, bank, KEPT)?;
     report.begin();
@@ -298,7 +299,7 @@ pub fn try_readers<B: TermBank>(bank: &mut B, report: &mut Report) -> Option<()>
     Some(())
 }
 
-/// Protecting and reclaiming ask for no memory.
+/// Protects and collects, which must not allocate.
 pub fn try_reclaim<B: TermBank>(bank: &mut B, report: &mut Report) -> Option<()> {
     let kept = set_up(report.alloc, bank, KEPT)?;
     report.begin();

@@ -1,5 +1,5 @@
-//! The memo and the engine. What a call of the engine asks for is handed on by small functions, of
-//! which each makes one such call.
+//! Tests of the memo table and the engine. Each call of the engine is in a small function of its
+//! own.
 #![tactic(auto)]
 
 ghost use Rattle.std.specs.Prelude.{IfSome};
@@ -15,28 +15,29 @@ use rx_shared::SharedBank;
 use rx_term::{Term, TermBank};
 use std::alloc::Global;
 
-/// A small memo, and a reclaim as often as can be, so that a refused growth meets both.
+/// A small memo table, and collections as often as possible, so that a failed allocation meets
+/// both.
 const OPTIONS: Options = Options {
     memo: 16,
     reclaim_every: 1,
 };
 
-/// As many steps as the specification's first term takes.
+/// The number of steps of the specification's first EVAL term.
 const STEPS: u64 = 4;
 
 /// The text of a term that has to stay.
 const KEPT: &[u8] = b"[kept]";
 
-/// What an engine is asked for.
+/// The call of the engine.
 #[derive(Clone, Copy)]
 pub enum Asked {
-    /// A term of the specification.
+    /// Make an EVAL term.
     Term,
-    /// What that term comes to.
+    /// Evaluate that term.
     Value,
 }
 
-/// A memo is made.
+/// Makes a memo table.
 pub fn try_memo(report: &mut Report) -> Option<()> {
     report.begin();
     report.tell(Memo::new(report.alloc, 16));
@@ -46,14 +47,14 @@ pub fn try_memo(report: &mut Report) -> Option<()> {
     Some(())
 }
 
-/// An engine over a bank.
+/// Makes an engine over a store.
 fn engine_over<B: TermBank + Drop>(alloc: Global, bank: B) -> Option<Box<Engine<B>>> {
     let checked = checked_specification(alloc)?;
     let checked = Box::into_inner(checked);
     heap_answer(alloc, Engine::new(alloc, checked, bank, OPTIONS))
 }
 
-/// An engine is made, and then one over another bank.
+/// Makes an engine, and then one over another store.
 pub fn try_new(report: &mut Report) -> Option<()> {
     let bank = SharedBank::new(report.alloc, CELLS).ok()?;
     make_once(bank, report)?;
@@ -63,7 +64,7 @@ pub fn try_new(report: &mut Report) -> Option<()> {
     Some(())
 }
 
-/// Makes an engine where memory may be refused. It takes the bank and the specification.
+/// Makes an engine while allocations may fail. It takes the store and the specification.
 fn make_once<B: TermBank + Drop>(bank: B, report: &mut Report) -> Option<()> {
     let checked = checked_specification(report.alloc)?;
     report.begin();
@@ -72,14 +73,14 @@ fn make_once<B: TermBank + Drop>(bank: B, report: &mut Report) -> Option<()> {
     Some(())
 }
 
-/// Reads a term that has to stay, and protects it.
+/// Reads and protects a term that has to stay.
 fn keep<B: TermBank>(alloc: Global, bank: &mut B) -> Option<Term> {
     let kept = read_held(alloc, bank, KEPT)?;
     bank.protect(kept).ok()?;
     Some(kept)
 }
 
-/// The specification's first term.
+/// Returns the specification's first EVAL term.
 fn own_term<B: TermBank>(engine: &mut Engine<B>) -> Option<Term>
     ensures { IfSome result (IsGiven engine.new.spec (B.store engine.new.bank)) }
 {
@@ -89,8 +90,8 @@ fn own_term<B: TermBank>(engine: &mut Engine<B>) -> Option<Term>
     engine.eval_term(0).ok()
 }
 
-/// An engine is asked where memory may be refused. Where that was refused, the same engine gives
-/// the answer when it is asked again.
+/// Calls an engine while allocations may fail. If one fails, the same engine must return the result
+/// when it is called again.
 pub fn try_ask<B: TermBank + Drop>(mut bank: B, asked: Asked, report: &mut Report) -> Option<()> {
     let kept = keep(report.alloc, &mut bank)?;
     let mut engine = engine_over(report.alloc, bank)?;
@@ -100,7 +101,7 @@ pub fn try_ask<B: TermBank + Drop>(mut bank: B, asked: Asked, report: &mut Repor
     }
 }
 
-/// Makes the specification's first term twice; memory may be refused the first time.
+/// Makes the first EVAL term twice; allocations may fail the first time.
 fn make_twice<B: TermBank>(engine: &mut Engine<B>, kept: Term, report: &mut Report) -> Option<()> {
     if engine.eval_terms() == 0 {
         return None;
@@ -113,7 +114,7 @@ fn make_twice<B: TermBank>(engine: &mut Engine<B>, kept: Term, report: &mut Repo
     Some(())
 }
 
-/// Evaluates that term twice; memory may be refused the first time.
+/// Evaluates that term twice; allocations may fail the first time.
 fn evaluate_twice<B: TermBank>(
     engine: &mut Engine<B>,
     kept: Term,
@@ -125,7 +126,7 @@ fn evaluate_twice<B: TermBank>(
     show_value(engine, t, report)
 }
 
-/// Evaluates a term where memory may be refused. It can be evaluated again.
+/// Evaluates a term while allocations may fail. It can be evaluated again.
 fn evaluate<B: TermBank>(engine: &mut Engine<B>, t: Term, report: &mut Report)
     requires { IsGiven engine.old.spec (B.store engine.old.bank) t }
     ensures { IsGiven engine.new.spec (B.store engine.new.bank) t }
@@ -134,7 +135,7 @@ fn evaluate<B: TermBank>(engine: &mut Engine<B>, t: Term, report: &mut Report)
     report.tell(engine.normalise(t, STEPS));
 }
 
-/// Evaluates a term where there is memory, and says what it comes to.
+/// Evaluates a term, and prints its normal form.
 fn show_value<B: TermBank>(engine: &mut Engine<B>, t: Term, report: &mut Report) -> Option<()>
     requires { IsGiven engine.old.spec (B.store engine.old.bank) t }
 {

@@ -1,5 +1,23 @@
-//! Makes one call of a library where the watcher of this process may refuse it memory, and tells
-//! what stands then. The two words of the command line name the row.
+//! Allocation-failure tests: makes one call of a library while a tracer refuses allocations, and
+//! prints the state after it.
+//!
+//! The two arguments of the program name the test: the kind of value and the call, as `shared
+//! cons`. The program prepares the value, prints `ready`, makes the call, and prints the result of
+//! the call and what it finds afterwards. `tests/memory.py` traces the program, lets each
+//! allocation of the call fail in turn, and compares the lines. So it checks that the call reports
+//! out of memory, that existing values are unchanged, that the same call succeeds afterwards, and
+//! that all blocks are freed.
+//!
+//! | Module | Calls |
+//! |---|---|
+//! | `banks` | both term stores |
+//! | `arenas` | `rx_names`, `rx_arena`, `rx_sweep` |
+//! | `texts`, `patterns` | `rx_text`, `rx_pattern` |
+//! | `specifications` | `rec_syntax`, `rec_sorts`, `rec_match` |
+//! | `engines` | `rec_memo`, `rec_engine` |
+//! | `report`, `needs` | the lines that are printed, and the preparation of values |
+//!
+//! The exit status is 0 if the test ran to its end and all lines were printed, and 3 otherwise.
 #![tactic(auto, using(rx_term::proofs::StoreLemmas::bank_steps))]
 
 mod arenas;
@@ -21,10 +39,10 @@ use rx_term::TermBank;
 use std::env;
 use std::process::ExitCode;
 
-/// How many cells the banks may have.
+/// The capacity of the stores, in cells.
 const CELLS: u32 = 4096;
 
-/// The program as it is started.
+/// Runs the test that the arguments name.
 fn main(rt: HostRuntime) -> ExitCode {
     let mut report = Report::new(rt.alloc(), rt.stdout());
     match try_row(&rt, &mut report) {
@@ -33,13 +51,14 @@ fn main(rt: HostRuntime) -> ExitCode {
     }
 }
 
-/// Tries the row that the words name. It has no answer where it could not be tried to its end.
+/// Runs the test that the arguments of the process name. Returns `None` if it did not run to its
+/// end.
 fn try_row(rt: &HostRuntime, report: &mut Report) -> Option<()> {
     let words: Vec<String> = env::args(rt).ok()?.skip(1).collect(rt.alloc()).ok()?;
     try_words(&words, report)
 }
 
-/// Tries the row of these words.
+/// Runs the test that these arguments name.
 fn try_words(words: &[String], report: &mut Report) -> Option<()> {
     let [kind, call] = words else {
         return None;
@@ -54,7 +73,7 @@ fn try_words(words: &[String], report: &mut Report) -> Option<()> {
     }
 }
 
-/// A call of a plain bank.
+/// Runs a test of the plain store.
 fn try_plain(call: &str, report: &mut Report) -> Option<()> {
     match call {
         "new" => banks::try_new_plain(report),
@@ -63,13 +82,13 @@ fn try_plain(call: &str, report: &mut Report) -> Option<()> {
     }
 }
 
-/// A call of a plain bank that is there.
+/// Runs a test of an existing plain store.
 fn try_over_plain(call: &str, report: &mut Report) -> Option<()> {
     let mut bank = heap_answer(report.alloc, PlainBank::new(report.alloc, CELLS))?;
     try_bank(call, &mut *bank, report)
 }
 
-/// A call of a shared bank.
+/// Runs a test of the shared store.
 fn try_shared(call: &str, report: &mut Report) -> Option<()> {
     match call {
         "new" => banks::try_new_shared(report),
@@ -79,7 +98,7 @@ fn try_shared(call: &str, report: &mut Report) -> Option<()> {
     }
 }
 
-/// A call of a shared bank that is there, or one of another kind over it.
+/// Runs a test of an existing shared store, or a test of another kind with it.
 fn try_over_shared(kind: &str, call: &str, report: &mut Report) -> Option<()> {
     let mut bank = heap_answer(report.alloc, SharedBank::new(report.alloc, CELLS))?;
     match kind {
@@ -90,7 +109,7 @@ fn try_over_shared(kind: &str, call: &str, report: &mut Report) -> Option<()> {
     }
 }
 
-/// A call of any bank.
+/// Runs a test of any store.
 fn try_bank<B: TermBank>(call: &str, bank: &mut B, report: &mut Report) -> Option<()> {
     let call = match call {
         "int" => Call::Int,
@@ -108,7 +127,7 @@ fn try_bank<B: TermBank>(call: &str, bank: &mut B, report: &mut Report) -> Optio
     banks::try_call(bank, call, report)
 }
 
-/// A call of the tables and cells that banks stand on.
+/// Runs a test of the table of names or of the arena, from which the stores are built.
 fn try_store(call: &str, report: &mut Report) -> Option<()> {
     match call {
         "intern" => arenas::try_intern(report),
@@ -118,7 +137,7 @@ fn try_store(call: &str, report: &mut Report) -> Option<()> {
     }
 }
 
-/// A call on texts of annotated terms or on patterns, over any bank.
+/// Runs a test of texts or patterns, with any store.
 fn try_text<B: TermBank>(call: &str, bank: &mut B, report: &mut Report) -> Option<()> {
     match call {
         "read" => texts::try_read(bank, report),
@@ -130,7 +149,7 @@ fn try_text<B: TermBank>(call: &str, bank: &mut B, report: &mut Report) -> Optio
     }
 }
 
-/// A call on specifications, over any bank.
+/// Runs a test of specifications, with any store.
 fn try_specification<B: TermBank>(call: &str, bank: &mut B, report: &mut Report) -> Option<()> {
     match call {
         "read" => specifications::try_read(report),
@@ -143,7 +162,7 @@ fn try_specification<B: TermBank>(call: &str, bank: &mut B, report: &mut Report)
     }
 }
 
-/// A call of the engine over a shared bank, and of its memo.
+/// Runs a test of the engine with a shared store, or of the memo table.
 fn try_engine(call: &str, report: &mut Report) -> Option<()> {
     let asked = match call {
         "memo" => return engines::try_memo(report),

@@ -1,4 +1,4 @@
-//! What a row needs before its call.
+//! Preparation of the values for a test.
 
 ghost use Rattle.std.specs.Prelude.{◌≡◌, Ok, IsSome, IfSome};
 ghost use Rattle.rx_term.specs.Store.{tree_at};
@@ -7,7 +7,7 @@ use rx_term::{Term, TermBank};
 use rx_text::read;
 use std::alloc::Global;
 
-/// What was made, on the heap: there it is one small value to its owner, whatever its parts.
+/// Moves a result to the heap. The owner then drops one small value, whatever its parts.
 pub fn heap_answer<T: Drop, F: Drop>(alloc: Global, answer: Result<T, F>) -> Option<Box<T>>
     ensures { IfSome result (λ b. answer ≡ Ok b.value) }
 {
@@ -17,7 +17,7 @@ pub fn heap_answer<T: Drop, F: Drop>(alloc: Global, answer: Result<T, F>) -> Opt
     }
 }
 
-/// The term of a text, which is held.
+/// Reads the term of a text. Returns `None` if the store does not have it.
 pub fn read_held<B: TermBank>(alloc: Global, bank: &mut B, text: &[u8]) -> Option<Term>
     ensures { IfSome result (λ t. IsSome (tree_at (B.store bank.new) t)) }
 {

@@ -1,4 +1,4 @@
-//! Patterns over a bank.
+//! Tests of patterns.
 
 ghost use Rattle.std.specs.Prelude.{IsSome};
 ghost use Rattle.rx_term.specs.Store.{tree_at};
@@ -9,25 +9,25 @@ use rx_pattern::Pattern;
 use rx_term::{Term, TermBank};
 use std::alloc::Global;
 
-/// Binds an integer and the rest of a list that has annotations.
+/// A pattern that binds an integer and the rest of a list with annotations.
 const PATTERN: &[u8] = b"f(<int>,[<list>]{x})";
 
-/// What it matches.
+/// A term that it matches.
 const SUBJECT: &[u8] = b"f(1,[2,3]{x})";
 
-/// What it is made with first.
+/// The first argument of the pattern.
 const FIRST: &[u8] = b"1";
 
-/// What it is made with second.
+/// The second argument of the pattern.
 const SECOND: &[u8] = b"[2,3]";
 
-/// The pattern that the text spells.
+/// Returns the pattern of the text.
 fn pattern<B: TermBank>(alloc: Global, bank: &mut B) -> Option<Box<Pattern>> {
     let t = read_held(alloc, bank, PATTERN)?;
     heap_answer(alloc, Pattern::of(alloc, bank, t))
 }
 
-/// The pattern of a term is taken.
+/// Makes a pattern of a term.
 pub fn try_of<B: TermBank>(bank: &mut B, report: &mut Report) -> Option<()> {
     let t = read_held(report.alloc, bank, PATTERN)?;
     report.begin();
@@ -36,7 +36,7 @@ pub fn try_of<B: TermBank>(bank: &mut B, report: &mut Report) -> Option<()> {
     show_bindings(bank, &*pattern, report)
 }
 
-/// Says what a pattern binds in the subject.
+/// Prints the bindings of a pattern in the subject.
 fn show_bindings<B: TermBank>(bank: &mut B, pattern: &Pattern, report: &mut Report) -> Option<()> {
     let t = read_held(report.alloc, bank, SUBJECT)?;
     let mut bound = Vec::new(report.alloc);
@@ -47,7 +47,7 @@ fn show_bindings<B: TermBank>(bank: &mut B, pattern: &Pattern, report: &mut Repo
     Some(())
 }
 
-/// A term is matched twice; memory may be refused the first time.
+/// Matches a term twice; allocations may fail the first time.
 pub fn try_matches<B: TermBank>(bank: &mut B, report: &mut Report) -> Option<()> {
     let pattern = pattern(report.alloc, bank)?;
     let t = read_held(report.alloc, bank, SUBJECT)?;
@@ -56,7 +56,7 @@ pub fn try_matches<B: TermBank>(bank: &mut B, report: &mut Report) -> Option<()>
     show_bindings(bank, &*pattern, report)
 }
 
-/// Matches it where memory may be refused.
+/// Matches a term while allocations may fail.
 fn match_once<B: TermBank>(bank: &mut B, pattern: &Pattern, t: Term, report: &mut Report)
     requires { IsSome (tree_at (B.store bank.old) t) }
 {
@@ -67,13 +67,13 @@ fn match_once<B: TermBank>(bank: &mut B, pattern: &Pattern, t: Term, report: &mu
     report.say(is_empty, "without bindings after a fault");
 }
 
-/// A term is made.
+/// Makes a term from a pattern.
 pub fn try_make<B: TermBank>(bank: &mut B, report: &mut Report) -> Option<()> {
     let pattern = pattern(report.alloc, bank)?;
     make_twice(bank, &*pattern, report)
 }
 
-/// Makes it twice of what is read; memory may be refused the first time.
+/// Makes it twice from terms that are read; allocations may fail the first time.
 fn make_twice<B: TermBank>(bank: &mut B, pattern: &Pattern, report: &mut Report) -> Option<()> {
     let first = read_held(report.alloc, bank, FIRST)?;
     let second = read_held(report.alloc, bank, SECOND)?;
@@ -85,7 +85,7 @@ fn make_twice<B: TermBank>(bank: &mut B, pattern: &Pattern, report: &mut Report)
     Some(())
 }
 
-/// Makes it where memory may be refused, if both given terms are held.
+/// Makes it while allocations may fail, if the store has both arguments.
 fn make_once<B: TermBank>(
     bank: &mut B,
     pattern: &Pattern,
@@ -100,7 +100,7 @@ fn make_once<B: TermBank>(
     Some(())
 }
 
-/// Makes it where there is memory, if both given terms are held.
+/// Makes it, if the store has both arguments.
 fn make<B: TermBank>(bank: &mut B, pattern: &Pattern, given: &[Term; 2]) -> Option<Term> {
     if !bank.holds(given[0]) || !bank.holds(given[1]) {
         return None;

@@ -1,6 +1,6 @@
-//! What a row tells. The lines before and behind the call are one write each, so that a watcher of
-//! the process knows where the call begins and ends. What cannot be told is noted, and the row goes
-//! on, so that telling is no way out of a row.
+//! The lines that a test prints. Those before and after the call are one write each, so that a
+//! tracer of the process knows when the call starts and ends. A failed write is recorded, and the
+//! test continues.
 
 use rec_engine::EngineFault;
 use rec_sorts::{SortFault, TermsFault};
@@ -13,9 +13,9 @@ use rx_text::{TextFault, WriteFault, write};
 use std::alloc::{AllocError, Global};
 use std::io::{Stdout, Write};
 
-/// Why a call was not done.
+/// An error that is out of memory or something different.
 pub trait Fault {
-    /// Whether memory was wanting.
+    /// Returns whether the error is out of memory.
     fn lacks_memory(&self) -> bool;
 }
 
@@ -91,17 +91,17 @@ impl Fault for EngineFault {
     }
 }
 
-/// Where a row tells what it finds.
+/// The output of a test.
 #[derive(Drop)]
 pub struct Report {
-    /// What all that a row makes asks for memory.
+    /// The allocator of everything that a test makes.
     pub alloc: Global,
     out: Stdout,
     is_whole: bool,
 }
 
 impl Report {
-    /// With nothing told so far.
+    /// Returns a report with no lines.
     pub fn new(alloc: Global, out: Stdout) -> Report {
         Report {
             alloc,
@@ -110,22 +110,22 @@ impl Report {
         }
     }
 
-    /// Whether all was told that was to be told.
+    /// Returns whether all lines were printed.
     pub fn is_whole(&self) -> bool {
         self.is_whole
     }
 
-    /// Says a text.
+    /// Prints a text.
     fn put(&mut self, text: &[u8]) {
         self.is_whole &= self.out.write_all(text).is_ok();
     }
 
-    /// Says that the call comes next.
+    /// Prints that the call comes next.
     pub fn begin(&mut self) {
         self.put(b"ready\n");
     }
 
-    /// Says how the call was answered, and returns whether it was done.
+    /// Prints the result of the call, and returns whether it succeeded.
     pub fn tell<T: Drop, F: Fault + Drop>(&mut self, answer: Result<T, F>) -> bool {
         self.put(match &answer {
             Ok(_) => b"done\n",
@@ -135,12 +135,12 @@ impl Report {
         answer.is_ok()
     }
 
-    /// Says that a call was done which has one answer alone.
+    /// Prints that a call that cannot fail has returned.
     pub fn end(&mut self) {
         self.put(b"done\n");
     }
 
-    /// Says what was done, or that it was not.
+    /// Prints a statement, or its negation.
     pub fn say(&mut self, is_so: bool, what: &str) {
         if !is_so {
             self.put(b"not ");
@@ -149,12 +149,12 @@ impl Report {
         self.put(b"\n");
     }
 
-    /// Says a number and what it counts.
+    /// Prints a number and its unit.
     pub fn count(&mut self, number: u64, what: &str) {
         self.is_whole &= writeln!(self.out, "{number} {what}").is_ok();
     }
 
-    /// Says the text of a term, where it is held.
+    /// Prints the text of a term, if the store has it.
     pub fn show<B: TermBank>(&mut self, bank: &B, t: Term) {
         if bank.holds(t) {
             self.is_whole &= write(self.alloc, bank, t, &mut self.out).is_ok();

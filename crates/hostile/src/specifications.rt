@@ -1,5 +1,5 @@
-//! Specifications: their texts, their rules, given terms, links to a bank, and matching. A function
-//! that owns a large value has few ways out, as on each of them the value is dropped.
+//! Tests of specifications: parsing, well-formedness, input terms, symbol maps and matching. A
+//! function that owns a large value has few returns, since the value is dropped at each of them.
 #![tactic(auto)]
 
 ghost use Rattle.std.specs.Prelude.{◌≡◌, IfSome, IsSome, length};
@@ -17,27 +17,27 @@ use rx_term::{Term, TermBank};
 use smallvec::SmallVec;
 use std::alloc::Global;
 
-/// Addition, and doubling by a rule with a condition. To double two takes one step, and three steps
-/// to add two to two.
+/// Addition, and doubling by a rule with a condition. To double two takes one step, and to add two
+/// to two takes three.
 const DOUBLING: &[u8] = b"REC-SPEC Doubling SORTS N CONS z : -> N s : N -> N
     OPNS plus : N N -> N twice : N -> N VARS X Y : N
     RULES plus(z,Y) -> Y plus(s(X),Y) -> s(plus(X,Y))
     twice(X) -> plus(X,X) if X ->/<- z twice(X) -> z
     EVAL twice(s(s(z))) z END-SPEC";
 
-/// Given terms that keep the six rules.
+/// Input terms without an error.
 const TERMS: &[u8] = b"[plus(z,s(z)),z{a}]";
 
-/// The term that a rule is looked for.
+/// The term for which a rule is searched.
 const SUM: &[u8] = b"plus(s(z),s(s(z)))";
 
-/// The specification after its check.
+/// Returns the checked specification.
 pub fn checked_specification(alloc: Global) -> Option<Box<Checked>> {
     let syntax = read_spec(alloc, DOUBLING).ok()?;
     heap_answer(alloc, check(alloc, syntax))
 }
 
-/// A specification is read.
+/// Reads a specification.
 pub fn try_read(report: &mut Report) -> Option<()> {
     report.begin();
     report.tell(read_spec(report.alloc, DOUBLING));
@@ -46,14 +46,14 @@ pub fn try_read(report: &mut Report) -> Option<()> {
     Some(())
 }
 
-/// Says what was read.
+/// Prints the parts of a specification.
 fn show_syntax(syntax: &Syntax, report: &mut Report) {
     report.say(syntax.source() == DOUBLING, "the text");
     report.count(syntax.rules().len() as u64, "rules");
     report.count(syntax.terms().len() as u64, "terms");
 }
 
-/// A specification is checked.
+/// Checks a specification.
 pub fn try_check(report: &mut Report) -> Option<()> {
     check_once(report)?;
     let checked = checked_specification(report.alloc)?;
@@ -62,7 +62,7 @@ pub fn try_check(report: &mut Report) -> Option<()> {
     Some(())
 }
 
-/// Checks it where memory may be refused.
+/// Checks it while allocations may fail.
 fn check_once(report: &mut Report) -> Option<()> {
     let syntax = read_spec(report.alloc, DOUBLING).ok()?;
     report.begin();
@@ -70,7 +70,7 @@ fn check_once(report: &mut Report) -> Option<()> {
     Some(())
 }
 
-/// Given terms are checked twice; memory may be refused the first time.
+/// Checks input terms twice; allocations may fail the first time.
 pub fn try_check_terms<B: TermBank>(bank: &mut B, report: &mut Report) -> Option<()> {
     let list = read_held(report.alloc, bank, TERMS)?;
     let checked = checked_specification(report.alloc)?;
@@ -81,7 +81,7 @@ pub fn try_check_terms<B: TermBank>(bank: &mut B, report: &mut Report) -> Option
     Some(())
 }
 
-/// The symbols get theirs in a bank.
+/// Adds the symbols of a specification to a store.
 pub fn try_links<B: TermBank>(bank: &mut B, report: &mut Report) -> Option<()> {
     let kept = set_up(report.alloc, bank, KEPT)?;
     let checked = checked_specification(report.alloc)?;
@@ -90,7 +90,7 @@ pub fn try_links<B: TermBank>(bank: &mut B, report: &mut Report) -> Option<()> {
     Some(())
 }
 
-/// Gives them theirs twice; memory may be refused the first time.
+/// Adds them twice; allocations may fail the first time.
 fn link_twice<B: TermBank>(checked: &Checked, bank: &mut B, report: &mut Report) -> Option<()> {
     let mut before = Vec::new(report.alloc);
     add_content(report.alloc, bank, &mut before)?;
@@ -100,26 +100,26 @@ fn link_twice<B: TermBank>(checked: &Checked, bank: &mut B, report: &mut Report)
     count_symbols(checked, bank, report)
 }
 
-/// Says how many symbols a specification gets in a bank.
+/// Prints the number of symbols of a specification in a store.
 fn count_symbols<B: TermBank>(checked: &Checked, bank: &mut B, report: &mut Report) -> Option<()> {
     let links = heap_answer(report.alloc, Links::make(report.alloc, checked, bank))?;
     report.count(links.symbols().len() as u64, "symbols");
     Some(())
 }
 
-/// The matching trees are built.
+/// Builds the matching trees.
 pub fn try_build<B: TermBank>(bank: &mut B, report: &mut Report) -> Option<()> {
     let checked = checked_specification(report.alloc)?;
     build_over(&*checked, bank, report)
 }
 
-/// Builds them for the symbols of a bank.
+/// Builds them for the symbols of a store.
 fn build_over<B: TermBank>(checked: &Checked, bank: &mut B, report: &mut Report) -> Option<()> {
     let links = Links::make(report.alloc, checked, bank).ok()?;
     build_twice(checked, &links, report)
 }
 
-/// Builds them twice; memory may be refused the first time.
+/// Builds them twice; allocations may fail the first time.
 fn build_twice(checked: &Checked, links: &Links, report: &mut Report) -> Option<()>
     requires { length links.now ≡ length (symbols checked.now.spec) }
 {
@@ -130,7 +130,7 @@ fn build_twice(checked: &Checked, links: &Links, report: &mut Report) -> Option<
     Some(())
 }
 
-/// A matcher, whose symbols the bank has.
+/// Returns a matcher for a store that has its symbols.
 fn matcher_for<B: TermBank>(alloc: Global, bank: &mut B) -> Option<Matcher>
     ensures { IfSome result (AreReady (B.store bank.new)) }
 {
@@ -138,7 +138,7 @@ fn matcher_for<B: TermBank>(alloc: Global, bank: &mut B) -> Option<Matcher>
     matcher_of(alloc, &*checked, bank)
 }
 
-/// The matcher of a specification.
+/// Returns the matcher of a specification.
 fn matcher_of<B: TermBank>(alloc: Global, checked: &Checked, bank: &mut B) -> Option<Matcher>
     ensures { IfSome result (AreReady (B.store bank.new)) }
 {
@@ -149,14 +149,14 @@ fn matcher_of<B: TermBank>(alloc: Global, checked: &Checked, bank: &mut B) -> Op
     }
 }
 
-/// The least rule for a term is looked for.
+/// Searches the first rule for a term.
 pub fn try_next<B: TermBank>(bank: &mut B, report: &mut Report) -> Option<()> {
     let t = read_held(report.alloc, bank, SUM)?;
     let matcher = matcher_for(report.alloc, bank)?;
     ask(bank, &matcher, t, report)
 }
 
-/// Looks for it twice, where the term is still held; memory may be refused the first time.
+/// Searches it twice, if the store has the term; allocations may fail the first time.
 fn ask<B: TermBank>(bank: &B, matcher: &Matcher, t: Term, report: &mut Report) -> Option<()>
     requires { AreReady (B.store bank.now) matcher.now }
 {

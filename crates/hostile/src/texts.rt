@@ -1,4 +1,4 @@
-//! Texts of annotated terms.
+//! Tests of texts of annotated terms.
 
 ghost use Rattle.std.specs.Prelude.{IsSome};
 ghost use Rattle.rx_term.specs.Store.{tree_at};
@@ -8,13 +8,13 @@ use crate::report::Report;
 use rx_term::{Term, TermBank};
 use rx_text::{read, write};
 
-/// A text with each kind of node, whose 14 parts are counted in `banks`.
+/// A text with each kind of term. Its 14 cells are listed in `banks`.
 const TEXT: &[u8] = b"f(g(a),[1,<7>]){b}";
 
 /// The text of a term that has to stay.
 const KEPT: &[u8] = b"[kept]";
 
-/// A text is read. What was there before is there after a refusal.
+/// Reads a text. The terms from before must still be there after a failure.
 pub fn try_read<B: TermBank>(bank: &mut B, report: &mut Report) -> Option<()> {
     let kept = read_held(report.alloc, bank, KEPT)?;
     report.begin();
@@ -27,7 +27,7 @@ pub fn try_read<B: TermBank>(bank: &mut B, report: &mut Report) -> Option<()> {
     Some(())
 }
 
-/// A term is written to a writer that needs no memory.
+/// Writes a term to a writer that needs no memory.
 pub fn try_write<B: TermBank>(bank: &mut B, report: &mut Report) -> Option<()> {
     let t = read_held(report.alloc, bank, TEXT)?;
     let mut text = Vec::with_capacity(report.alloc, 1000).ok()?;
@@ -36,7 +36,7 @@ pub fn try_write<B: TermBank>(bank: &mut B, report: &mut Report) -> Option<()> {
     Some(())
 }
 
-/// Writes it where memory may be refused.
+/// Writes a term while allocations may fail.
 fn write_once<B: TermBank>(bank: &B, t: Term, text: &mut Vec<u8>, report: &mut Report)
     requires { IsSome (tree_at (B.store bank.now) t) }
 {

@@ -1,4 +1,4 @@
-//! An answer as C gets it: a number, and what is written where the number is 0.
+//! Return codes for C, and the results that are written if the code is 0.
 
 ghost use Rattle.std.specs.Prelude.{◌≡◌, ◌≢◌, ℕ, ℤ};
 ghost use Rattle.rx_term.specs.Store.{Store};
@@ -13,10 +13,10 @@ use psilt_work::evaluating::Normalised;
 use psilt_work::fault::code;
 use rx_term::{Kind, Term};
 
-/// What C is told of a handle that is closed.
+/// The return code if the handle is closed.
 pub(crate) const CLOSED: u32 = 3;
 
-/// Takes the work out of an open handle, does something to it, and puts it back.
+/// Takes the work out of an open handle, evaluates an expression with it, and puts it back.
 macro_rules! on_work {
     ($psilt:ident, $alloc:ident, $work:ident, $call:expr) => {{
         let Some(mut $work) = $psilt.take($alloc) else {
@@ -30,14 +30,14 @@ macro_rules! on_work {
 
 pub(crate) use on_work;
 
-/// The number of an answer.
+/// Returns the code of a result without a value.
 pub(crate) fn tell_done(answer: Result<(), Fault>) -> u32
     ensures { told result tt ≡ answer }
 {
     code(&answer)
 }
 
-/// The number of an answer, whose reference is written.
+/// Returns the code of a result, and writes the term reference on success.
 pub(crate) fn give(answer: Result<Term, Fault>, out: &mut u32) -> u32
     ensures answer { told result (term_of out.new) ≡ answer }
     ensures kept { result ≢ 0 → out.new ≡ out.old }
@@ -48,7 +48,7 @@ pub(crate) fn give(answer: Result<Term, Fault>, out: &mut u32) -> u32
     code(&answer)
 }
 
-/// The number of a fault.
+/// Returns the code of an error.
 fn refusal(fault: Fault) -> u32
     ensures { (result ≢ 0) × (fault_at result ≡ fault) }
 {
@@ -56,7 +56,7 @@ fn refusal(fault: Fault) -> u32
     code(&answer)
 }
 
-/// The number of an answer, whose value is written.
+/// Returns the code of a result, and writes the value on success.
 pub(crate) fn tell<T: Copy>(answer: Result<T, Fault>, out: &mut T) -> u32
     ensures answer { told result out.new ≡ answer }
     ensures kept { result ≢ 0 → out.new ≡ out.old }
@@ -70,7 +70,7 @@ pub(crate) fn tell<T: Copy>(answer: Result<T, Fault>, out: &mut T) -> u32
     }
 }
 
-/// The number of an answer, whose value and steps are written.
+/// Returns the code of a result, and writes the term reference and the number of steps on success.
 pub(crate) fn tell_value(answer: Result<Normalised, Fault>, value: &mut u32, taken: &mut u64) -> u32
     ensures answer { told result (normalised_of value.new taken.new) ≡ answer }
     ensures kept { result ≢ 0 → (value.new ≡ value.old) × (taken.new ≡ taken.old) }
@@ -85,7 +85,8 @@ pub(crate) fn tell_value(answer: Result<Normalised, Fault>, value: &mut u32, tak
     }
 }
 
-/// The number of an answer, whose kind is written as a number, and of an integer its value.
+/// Returns the code of a result. On success, writes the number of the kind and, for an integer, its
+/// value.
 pub(crate) fn tell_kind(answer: Result<Kind, Fault>, kind: &mut u32, value: &mut i32) -> u32
     ensures answer { (w : Store) → (t : Reference) → Looks w t (HasKind w t) answer
         → Looks w t (λ (k : ℕ × ℤ). HasKindNumber w t k.0 k.1) (told result (kind.new, value.new)) }

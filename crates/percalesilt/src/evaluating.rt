@@ -1,4 +1,4 @@
-//! C specifies, and has terms evaluated.
+//! Specifications and evaluation for C.
 
 ghost use Rattle.std.specs.Prelude.{◌≡◌, ◌≢◌, []};
 ghost use Rattle.rx_term.specs.Store.{tree_at};
@@ -16,8 +16,9 @@ use psilt_work::Psilt;
 use rx_term::Term;
 use std::alloc::Global;
 
-/// What a text specifies is evaluated from now on, with a memo of so many entries, and a reclaim
-/// after so many new cells at the latest.
+/// Reads and checks a specification, which replaces the one before, if any.
+///
+/// The memo table has `memo` entries. Garbage is collected at the latest after `reclaim` new cells.
 #[unsafe(no_mangle)]
 pub extern "C" fn psilt_spec(
     alloc: Global,
@@ -33,7 +34,7 @@ pub extern "C" fn psilt_spec(
     tell_done(on_work!(psilt, alloc, work, work.specify(alloc, text, memo, reclaim)))
 }
 
-/// Nothing is specified any more.
+/// Removes the specification.
 #[unsafe(no_mangle)]
 pub extern "C" fn psilt_spec_free(alloc: Global, psilt: &mut Psilt) -> u32
     ensures answer { OnWork psilt.old psilt.new result
@@ -42,7 +43,7 @@ pub extern "C" fn psilt_spec_free(alloc: Global, psilt: &mut Psilt) -> u32
     tell_done(on_work!(psilt, alloc, work, work.unspecify()))
 }
 
-/// What a term comes to within so many steps, and how many it took.
+/// Evaluates a term with a limit of `steps` steps. Writes its normal form and the number of steps.
 #[unsafe(no_mangle)]
 pub extern "C" fn psilt_normalise(
     alloc: Global,
@@ -68,7 +69,7 @@ pub extern "C" fn psilt_normalise(
     )
 }
 
-/// How many terms to evaluate are specified.
+/// Writes the number of terms in the `EVAL` section of the specification.
 #[unsafe(no_mangle)]
 pub extern "C" fn psilt_eval_terms(alloc: Global, psilt: &mut Psilt, out: &mut u32) -> u32
     ensures answer { OnWork psilt.old psilt.new result
@@ -78,7 +79,7 @@ pub extern "C" fn psilt_eval_terms(alloc: Global, psilt: &mut Psilt, out: &mut u
     tell(on_work!(psilt, alloc, work, work.eval_terms()), out)
 }
 
-/// The specified term to evaluate of this number, from 0.
+/// Makes term number `i`, from 0, of the `EVAL` section of the specification.
 #[unsafe(no_mangle)]
 pub extern "C" fn psilt_eval_term(alloc: Global, psilt: &mut Psilt, i: u32, out: &mut u32) -> u32
     ensures answer { OnWork psilt.old psilt.new result

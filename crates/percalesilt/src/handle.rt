@@ -1,4 +1,4 @@
-//! C opens and closes a handle.
+//! Opening and closing of handles for C.
 
 ghost use Rattle.std.specs.Prelude.{◌≡◌};
 ghost use Rattle.psilt_work.specs.Handles.{Opens, Closes};
@@ -7,7 +7,7 @@ use crate::answer::CLOSED;
 use psilt_work::{Fault, Psilt, Work};
 use std::alloc::Global;
 
-/// Opens a handle over an empty bank of at most so many cells.
+/// Opens a handle over an empty store of at most `cap` cells.
 #[unsafe(no_mangle)]
 pub extern "C" fn psilt_open(alloc: Global, psilt: &mut Psilt, cap: u32) -> u32
     ensures { Opens psilt.old psilt.new cap result }
@@ -25,7 +25,7 @@ pub extern "C" fn psilt_open(alloc: Global, psilt: &mut Psilt, cap: u32) -> u32
     }
 }
 
-/// Closes a handle, and gives all of its memory back.
+/// Closes a handle, and frees all its memory.
 #[unsafe(no_mangle)]
 pub extern "C" fn psilt_close(alloc: Global, psilt: &mut Psilt) -> u32
     ensures { Closes psilt.old psilt.new result }

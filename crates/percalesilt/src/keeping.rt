@@ -1,4 +1,4 @@
-//! C says which terms stay, and for how many there is room.
+//! Protection of terms, garbage collection and capacity for C.
 
 ghost use Rattle.std.specs.Prelude.{◌≡◌, ◌≢◌, [], OnErr, OnOk};
 ghost use Rattle.rx_term.specs.Store.{cells};
@@ -13,7 +13,7 @@ use psilt_work::Psilt;
 use rx_term::Term;
 use std::alloc::Global;
 
-/// Counts a term as a root once more.
+/// Protects a term once more.
 #[unsafe(no_mangle)]
 pub extern "C" fn psilt_protect(alloc: Global, psilt: &mut Psilt, term: u32) -> u32
     ensures answer { OnBank psilt.old psilt.new result
@@ -22,7 +22,7 @@ pub extern "C" fn psilt_protect(alloc: Global, psilt: &mut Psilt, term: u32) -> 
     tell_done(on_work!(psilt, alloc, work, work.protect(Term(term))))
 }
 
-/// Counts a term as a root once less.
+/// Protects a term once less.
 #[unsafe(no_mangle)]
 pub extern "C" fn psilt_unprotect(alloc: Global, psilt: &mut Psilt, term: u32) -> u32
     ensures answer { OnBank psilt.old psilt.new result
@@ -31,8 +31,8 @@ pub extern "C" fn psilt_unprotect(alloc: Global, psilt: &mut Psilt, term: u32) -
     tell_done(on_work!(psilt, alloc, work, work.unprotect(Term(term))))
 }
 
-/// Gives up all terms but those that the roots and the given ones reach, and forgets the bindings
-/// of the last match.
+/// Collects garbage: frees all terms that neither protected terms nor those in `kept` reach, and
+/// clears the bindings of the last match.
 #[unsafe(no_mangle)]
 pub extern "C" fn psilt_reclaim(alloc: Global, psilt: &mut Psilt, kept: &[u32]) -> u32
     ensures answer { OnWork psilt.old psilt.new result
@@ -44,7 +44,7 @@ pub extern "C" fn psilt_reclaim(alloc: Global, psilt: &mut Psilt, kept: &[u32]) 
     tell_done(on_work!(psilt, alloc, work, work.reclaim(alloc, kept)))
 }
 
-/// Makes room for so many cells more.
+/// Allocates memory for `count` more cells.
 #[unsafe(no_mangle)]
 pub extern "C" fn psilt_reserve(alloc: Global, psilt: &mut Psilt, count: u32) -> u32
     ensures answer { OnBank psilt.old psilt.new result
@@ -53,7 +53,7 @@ pub extern "C" fn psilt_reserve(alloc: Global, psilt: &mut Psilt, count: u32) ->
     tell_done(on_work!(psilt, alloc, work, work.reserve(count)))
 }
 
-/// How many cells are taken.
+/// Writes the number of cells in use.
 #[unsafe(no_mangle)]
 pub extern "C" fn psilt_cells(alloc: Global, psilt: &mut Psilt, out: &mut u32) -> u32
     ensures answer { InBank psilt.old psilt.new result
@@ -63,7 +63,7 @@ pub extern "C" fn psilt_cells(alloc: Global, psilt: &mut Psilt, out: &mut u32) -
     tell(on_work!(psilt, alloc, work, Ok(work.cells())), out)
 }
 
-/// How many cells can be taken with no more memory.
+/// Writes the number of cells that can be used without more memory.
 #[unsafe(no_mangle)]
 pub extern "C" fn psilt_spare(alloc: Global, psilt: &mut Psilt, out: &mut u32) -> u32
     ensures answer { InBank psilt.old psilt.new result

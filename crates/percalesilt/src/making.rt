@@ -1,18 +1,20 @@
-//! C makes terms.
+//! Functions for C that make terms.
 
 ghost use Rattle.std.specs.Prelude.{◌≡◌, ◌≢◌, [], ◌∷◌, Some};
 ghost use Rattle.rx_term.specs.Tree.{Int, Items, none};
 ghost use Rattle.rx_term.specs.Store.{tree_at, longer, held_open, noted};
 ghost use Rattle.psilt_work.specs.Codes.{told};
 ghost use Rattle.psilt_work.specs.Answers.{term_of, MakesFrom, Applies};
-ghost use Rattle.psilt_work.specs.Handles.{OnBank};
+ghost use Rattle.psilt_work.specs.Banks.{store_of};
+ghost use Rattle.psilt_work.specs.Handles.{OnBank, OnWork};
+ghost use Rattle.psilt_work.specs.Works.{IsSameButBank};
 
 use crate::answer::{give, on_work};
 use psilt_work::Psilt;
 use rx_term::Term;
 use std::alloc::Global;
 
-/// An integer.
+/// Makes an integer.
 #[unsafe(no_mangle)]
 pub extern "C" fn psilt_int(alloc: Global, psilt: &mut Psilt, value: i32, out: &mut u32) -> u32
     ensures answer { OnBank psilt.old psilt.new result
@@ -22,7 +24,7 @@ pub extern "C" fn psilt_int(alloc: Global, psilt: &mut Psilt, value: i32, out: &
     give(on_work!(psilt, alloc, work, work.int(value)), out)
 }
 
-/// The empty list.
+/// Makes the empty list.
 #[unsafe(no_mangle)]
 pub extern "C" fn psilt_nil(alloc: Global, psilt: &mut Psilt, out: &mut u32) -> u32
     ensures answer { OnBank psilt.old psilt.new result
@@ -32,7 +34,7 @@ pub extern "C" fn psilt_nil(alloc: Global, psilt: &mut Psilt, out: &mut u32) -> 
     give(on_work!(psilt, alloc, work, work.nil()), out)
 }
 
-/// A list with one item more in front.
+/// Makes a list of `head` and then the items of `tail`.
 #[unsafe(no_mangle)]
 pub extern "C" fn psilt_cons(
     alloc: Global,
@@ -53,7 +55,7 @@ pub extern "C" fn psilt_cons(
     )
 }
 
-/// A placeholder of a term.
+/// Makes a placeholder with a term inside.
 #[unsafe(no_mangle)]
 pub extern "C" fn psilt_hole(alloc: Global, psilt: &mut Psilt, inner: u32, out: &mut u32) -> u32
     ensures answer { OnBank psilt.old psilt.new result
@@ -64,7 +66,7 @@ pub extern "C" fn psilt_hole(alloc: Global, psilt: &mut Psilt, inner: u32, out: 
     give(on_work!(psilt, alloc, work, work.hole(Term(inner))), out)
 }
 
-/// A term with the items of a list in place of its annotations.
+/// Makes a term whose annotations are the items of a list, instead of those that it has.
 #[unsafe(no_mangle)]
 pub extern "C" fn psilt_annotate(
     alloc: Global,
@@ -85,7 +87,7 @@ pub extern "C" fn psilt_annotate(
     )
 }
 
-/// An application of a name to some terms.
+/// Makes an application of a name to some terms.
 #[unsafe(no_mangle)]
 pub extern "C" fn psilt_appl(
     alloc: Global,
@@ -95,8 +97,9 @@ pub extern "C" fn psilt_appl(
     args: &[u32],
     out: &mut u32,
 ) -> u32
-    ensures answer { OnBank psilt.old psilt.new result
-        (λ v w. Applies v w name.now quoted args.now (told result (term_of out.new))) }
+    ensures answer { OnWork psilt.old psilt.new result
+        (λ v w. Applies v.bank.most_names (store_of v.bank) (store_of w.bank) name.now quoted
+        args.now (told result (term_of out.new)) × IsSameButBank v w) }
     ensures out { result ≢ 0 → out.new ≡ out.old }
 {
     give(

@@ -1,4 +1,4 @@
-//! C has patterns read, matches terms with them, and makes terms of them.
+//! Patterns for C: reading, matching, and making terms.
 
 ghost use Rattle.std.specs.Prelude.{◌≡◌, ◌≢◌};
 ghost use Rattle.rx_term.specs.Steps.{Grows};
@@ -16,7 +16,7 @@ use psilt_work::Psilt;
 use rx_term::Term;
 use std::alloc::Global;
 
-/// The number of the pattern that a text spells.
+/// Reads the text of a pattern, and writes its number.
 #[unsafe(no_mangle)]
 pub extern "C" fn psilt_pattern(
     alloc: Global,
@@ -32,7 +32,7 @@ pub extern "C" fn psilt_pattern(
     tell(on_work!(psilt, alloc, work, work.pattern(alloc, text)), out)
 }
 
-/// Takes the number of a pattern away.
+/// Frees a pattern and its number.
 #[unsafe(no_mangle)]
 pub extern "C" fn psilt_pattern_free(alloc: Global, psilt: &mut Psilt, pattern: usize) -> u32
     ensures answer { OnWork psilt.old psilt.new result
@@ -42,7 +42,7 @@ pub extern "C" fn psilt_pattern_free(alloc: Global, psilt: &mut Psilt, pattern: 
     tell_done(on_work!(psilt, alloc, work, work.free_pattern(pattern)))
 }
 
-/// Matches a pattern with a term, keeps the bindings, and tells how many there are.
+/// Matches a pattern with a term, stores the bindings, and writes their number.
 #[unsafe(no_mangle)]
 pub extern "C" fn psilt_match(
     alloc: Global,
@@ -69,7 +69,7 @@ pub extern "C" fn psilt_match(
     )
 }
 
-/// A binding of the last match, by its place from 0.
+/// Writes binding number `i`, from 0, of the last match.
 #[unsafe(no_mangle)]
 pub extern "C" fn psilt_bound(alloc: Global, psilt: &mut Psilt, i: usize, out: &mut u32) -> u32
     ensures answer { OnWork psilt.old psilt.new result
@@ -79,7 +79,7 @@ pub extern "C" fn psilt_bound(alloc: Global, psilt: &mut Psilt, i: usize, out: &
     give(on_work!(psilt, alloc, work, work.binding(i)), out)
 }
 
-/// A pattern with terms in place of its placeholders, in order.
+/// Makes a pattern's term, with terms instead of its placeholders, in order.
 #[unsafe(no_mangle)]
 pub extern "C" fn psilt_make(
     alloc: Global,
@@ -89,8 +89,8 @@ pub extern "C" fn psilt_make(
     out: &mut u32,
 ) -> u32
     ensures answer { OnWork psilt.old psilt.new result
-        (λ v w. Fills (pattern_at v.patterns pattern) (store_of v.bank) (store_of w.bank) args.now
-        (told result (term_of out.new))
+        (λ v w. Fills (pattern_at v.patterns pattern) v.bank.most_names (store_of v.bank)
+        (store_of w.bank) args.now (told result (term_of out.new))
         × Grows (store_of v.bank) (store_of w.bank) × IsSameButBank v w) }
     ensures out { result ≢ 0 → out.new ≡ out.old }
 {

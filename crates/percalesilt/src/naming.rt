@@ -1,18 +1,19 @@
-//! C knows symbols by numbers, and applies them.
+//! Symbols by numbers, and the limit of names, for C.
 
 ghost use Rattle.std.specs.Prelude.{◌≡◌, ◌≢◌};
 ghost use Rattle.psilt_work.specs.Banks.{signature_at, store_of};
 ghost use Rattle.psilt_work.specs.Codes.{told};
 ghost use Rattle.psilt_work.specs.Answers.{term_of};
+ghost use Rattle.psilt_work.specs.Names.{names_of};
 ghost use Rattle.psilt_work.specs.Symbols.{AppliesSymbol, GivesNumber};
-ghost use Rattle.psilt_work.specs.Handles.{OnWork};
-ghost use Rattle.psilt_work.specs.Works.{IsSameButBank, IsSameButSymbols};
+ghost use Rattle.psilt_work.specs.Handles.{InBank, OnWork};
+ghost use Rattle.psilt_work.specs.Works.{IsSameButBank, IsSameButLimit, IsSameButSymbols};
 
-use crate::answer::{give, on_work, tell};
+use crate::answer::{give, on_work, tell, tell_done};
 use psilt_work::Psilt;
 use std::alloc::Global;
 
-/// The number of the one symbol of a name, a flag and a number of arguments.
+/// Writes the number of the one symbol with this name, quoted flag and number of arguments.
 #[unsafe(no_mangle)]
 pub extern "C" fn psilt_symbol(
     alloc: Global,
@@ -34,7 +35,7 @@ pub extern "C" fn psilt_symbol(
     )
 }
 
-/// The application of a symbol to some terms.
+/// Makes the application of a symbol to some terms.
 #[unsafe(no_mangle)]
 pub extern "C" fn psilt_apply(
     alloc: Global,
@@ -49,4 +50,31 @@ pub extern "C" fn psilt_apply(
     ensures out { result ≢ 0 → out.new ≡ out.old }
 {
     give(on_work!(psilt, alloc, work, work.apply(symbol, args)), out)
+}
+
+/// Writes the number of names. A name counts once for each quoted flag and number of arguments.
+#[unsafe(no_mangle)]
+pub extern "C" fn psilt_names(alloc: Global, psilt: &mut Psilt, out: &mut u32) -> u32
+    ensures answer { InBank psilt.old psilt.new result
+        (λ v. (result ≡ 0) × (out.new ≡ names_of v)) }
+    ensures out { result ≢ 0 → out.new ≡ out.old }
+{
+    tell(on_work!(psilt, alloc, work, Ok(work.names())), out)
+}
+
+/// Limits the number of names from now on to `most`.
+#[unsafe(no_mangle)]
+pub extern "C" fn psilt_limit_names(alloc: Global, psilt: &mut Psilt, most: u32) -> u32
+    ensures answer { OnWork psilt.old psilt.new result
+        (λ v w. (result ≡ 0) × IsSameButLimit v w most) }
+{
+    tell_done(on_work!(
+        psilt,
+        alloc,
+        work,
+        {
+            work.limit_names(most);
+            Ok(())
+        }
+    ))
 }

@@ -1,4 +1,4 @@
-//! C takes terms apart.
+//! Functions for C that read parts of terms.
 
 ghost use Rattle.std.specs.Prelude.{◌≡◌, ◌≢◌, ℕ, ℤ, IsSome};
 ghost use Rattle.rx_term.specs.Store.{tree_at, head_of, tail_of, args_of, inner_of, anns_of};
@@ -12,8 +12,8 @@ use psilt_work::Psilt;
 use rx_term::Term;
 use std::alloc::Global;
 
-/// What the term is: 0 an integer, whose value is written too, 1 the empty list, 2 a longer list,
-/// 3 an application, 4 a placeholder.
+/// Writes the kind of a term: 0 for an integer, whose value is also written, 1 for the empty list,
+/// 2 for a longer list, 3 for an application, 4 for a placeholder.
 #[unsafe(no_mangle)]
 pub extern "C" fn psilt_kind(
     alloc: Global,
@@ -35,7 +35,7 @@ pub extern "C" fn psilt_kind(
     )
 }
 
-/// The first item of a list.
+/// Writes the first item of a list.
 #[unsafe(no_mangle)]
 pub extern "C" fn psilt_head(alloc: Global, psilt: &mut Psilt, term: u32, out: &mut u32) -> u32
     ensures answer { InBank psilt.old psilt.new result
@@ -45,7 +45,7 @@ pub extern "C" fn psilt_head(alloc: Global, psilt: &mut Psilt, term: u32, out: &
     give(on_work!(psilt, alloc, work, work.head(Term(term))), out)
 }
 
-/// A list without its first item and without annotations.
+/// Writes the list of the items after the first one, without annotations.
 #[unsafe(no_mangle)]
 pub extern "C" fn psilt_tail(alloc: Global, psilt: &mut Psilt, term: u32, out: &mut u32) -> u32
     ensures answer { InBank psilt.old psilt.new result
@@ -55,7 +55,7 @@ pub extern "C" fn psilt_tail(alloc: Global, psilt: &mut Psilt, term: u32, out: &
     give(on_work!(psilt, alloc, work, work.tail(Term(term))), out)
 }
 
-/// The arguments of an application, as a list.
+/// Writes the list of the arguments of an application.
 #[unsafe(no_mangle)]
 pub extern "C" fn psilt_args(alloc: Global, psilt: &mut Psilt, term: u32, out: &mut u32) -> u32
     ensures answer { InBank psilt.old psilt.new result
@@ -65,7 +65,7 @@ pub extern "C" fn psilt_args(alloc: Global, psilt: &mut Psilt, term: u32, out: &
     give(on_work!(psilt, alloc, work, work.args(Term(term))), out)
 }
 
-/// What stands inside a placeholder.
+/// Writes the term inside a placeholder.
 #[unsafe(no_mangle)]
 pub extern "C" fn psilt_inner(alloc: Global, psilt: &mut Psilt, term: u32, out: &mut u32) -> u32
     ensures answer { InBank psilt.old psilt.new result
@@ -75,7 +75,7 @@ pub extern "C" fn psilt_inner(alloc: Global, psilt: &mut Psilt, term: u32, out: 
     give(on_work!(psilt, alloc, work, work.inner(Term(term))), out)
 }
 
-/// The annotations, as a list.
+/// Writes the list of the annotations of a term.
 #[unsafe(no_mangle)]
 pub extern "C" fn psilt_annotations(
     alloc: Global,
@@ -93,7 +93,7 @@ pub extern "C" fn psilt_annotations(
     )
 }
 
-/// The argument of an application at a place, from 0.
+/// Writes argument number `i`, from 0, of an application.
 #[unsafe(no_mangle)]
 pub extern "C" fn psilt_arg(
     alloc: Global,
@@ -109,7 +109,7 @@ pub extern "C" fn psilt_arg(
     give(on_work!(psilt, alloc, work, work.arg(Term(term), i)), out)
 }
 
-/// How many arguments an application has.
+/// Writes the number of arguments of an application.
 #[unsafe(no_mangle)]
 pub extern "C" fn psilt_arity(alloc: Global, psilt: &mut Psilt, term: u32, out: &mut u32) -> u32
     ensures answer { InBank psilt.old psilt.new result
@@ -119,7 +119,7 @@ pub extern "C" fn psilt_arity(alloc: Global, psilt: &mut Psilt, term: u32, out: 
     tell(on_work!(psilt, alloc, work, work.arity(Term(term))), out)
 }
 
-/// Whether the name of an application is quoted.
+/// Writes whether the name of an application is quoted.
 #[unsafe(no_mangle)]
 pub extern "C" fn psilt_quoted(alloc: Global, psilt: &mut Psilt, term: u32, out: &mut bool) -> u32
     ensures answer { InBank psilt.old psilt.new result
@@ -132,7 +132,7 @@ pub extern "C" fn psilt_quoted(alloc: Global, psilt: &mut Psilt, term: u32, out:
     )
 }
 
-/// Whether the reference is there: 0 where it is.
+/// Returns 0 if the store has a term with this reference.
 #[unsafe(no_mangle)]
 pub extern "C" fn psilt_holds(alloc: Global, psilt: &mut Psilt, term: u32) -> u32
     ensures answer { InBank psilt.old psilt.new result

@@ -1,10 +1,11 @@
-//! C has texts read and printed.
+//! Texts of terms for C: reading, printing, and locations of errors.
 
 ghost use Rattle.std.specs.Prelude.{◌≡◌, ◌≢◌, Err};
 ghost use Rattle.psilt_work.specs.Banks.{store_of};
 ghost use Rattle.psilt_work.specs.Codes.{told};
 ghost use Rattle.psilt_work.specs.declared.fault.Fault.TheVariants.{Syntax};
 ghost use Rattle.psilt_work.specs.Answers.{term_of, Reads, Spells, Copies, printed_in, name_in};
+ghost use Rattle.psilt_work.specs.Answers.{SpellsWithin};
 ghost use Rattle.psilt_work.specs.Handles.{OnWork};
 ghost use Rattle.psilt_work.specs.Works.{IsSameButText, IsSameButRead};
 
@@ -13,11 +14,11 @@ use psilt_work::Psilt;
 use rx_term::Term;
 use std::alloc::Global;
 
-/// The tree that a text spells; `psilt_place` tells where a text leaves the grammar.
+/// Makes the term that a text spells. After a syntax error, `psilt_place` has its offset.
 #[unsafe(no_mangle)]
 pub extern "C" fn psilt_read(alloc: Global, psilt: &mut Psilt, text: &[u8], out: &mut u32) -> u32
     ensures answer { OnWork psilt.old psilt.new result
-        (λ v w. Reads (store_of v.bank) (store_of w.bank) text.now w.place
+        (λ v w. Reads v.bank.most_names (store_of v.bank) (store_of w.bank) text.now w.place
         (told result (term_of out.new))
         × (told result (term_of out.new) ≡ Err Syntax → w.rule ≡ 0) × IsSameButRead v w) }
     ensures out { result ≢ 0 → out.new ≡ out.old }
@@ -25,7 +26,8 @@ pub extern "C" fn psilt_read(alloc: Global, psilt: &mut Psilt, text: &[u8], out:
     give(on_work!(psilt, alloc, work, work.read(alloc, text)), out)
 }
 
-/// Where the text that was refused last leaves its grammar or breaks a rule, in bytes from 0.
+/// Writes the offset, in bytes from 0, at which the text that was rejected last leaves its grammar
+/// or violates a rule.
 #[unsafe(no_mangle)]
 pub extern "C" fn psilt_place(alloc: Global, psilt: &mut Psilt, out: &mut u32) -> u32
     ensures answer { OnWork psilt.old psilt.new result
@@ -35,8 +37,8 @@ pub extern "C" fn psilt_place(alloc: Global, psilt: &mut Psilt, out: &mut u32) -
     tell(on_work!(psilt, alloc, work, Ok(work.place)), out)
 }
 
-/// The rule that the text or the term breaks that was refused last; 0 where the text leaves its
-/// grammar.
+/// Writes the number of the rule that the text or the term that was rejected last violates; 0 after
+/// a syntax error.
 #[unsafe(no_mangle)]
 pub extern "C" fn psilt_rule(alloc: Global, psilt: &mut Psilt, out: &mut u32) -> u32
     ensures answer { OnWork psilt.old psilt.new result
@@ -46,7 +48,7 @@ pub extern "C" fn psilt_rule(alloc: Global, psilt: &mut Psilt, out: &mut u32) ->
     tell(on_work!(psilt, alloc, work, Ok(work.rule)), out)
 }
 
-/// Prints a term, which becomes the handle's text, and tells how many bytes that has.
+/// Prints a term to the handle's text, and writes the number of bytes.
 #[unsafe(no_mangle)]
 pub extern "C" fn psilt_print(alloc: Global, psilt: &mut Psilt, term: u32, out: &mut usize) -> u32
     ensures answer { OnWork psilt.old psilt.new result
@@ -60,7 +62,32 @@ pub extern "C" fn psilt_print(alloc: Global, psilt: &mut Psilt, term: u32, out: 
     )
 }
 
-/// The name of an application becomes the handle's text; tells how many bytes that has.
+/// Prints a term to the handle's text if that has at most `most` bytes, and writes their number.
+#[unsafe(no_mangle)]
+pub extern "C" fn psilt_print_within(
+    alloc: Global,
+    psilt: &mut Psilt,
+    term: u32,
+    most: usize,
+    out: &mut usize,
+) -> u32
+    ensures answer { OnWork psilt.old psilt.new result
+        (λ v w. SpellsWithin (store_of v.bank) (term_of term) most v.text.items w.text.items
+        (told result out.new) × IsSameButText v w) }
+    ensures out { result ≢ 0 → out.new ≡ out.old }
+{
+    tell(
+        on_work!(
+            psilt,
+            alloc,
+            work,
+            work.print_within(alloc, Term(term), most)
+        ),
+        out,
+    )
+}
+
+/// Stores the name of an application as the handle's text, and writes the number of bytes.
 #[unsafe(no_mangle)]
 pub extern "C" fn psilt_name(alloc: Global, psilt: &mut Psilt, term: u32, out: &mut usize) -> u32
     ensures answer { OnWork psilt.old psilt.new result
@@ -74,7 +101,7 @@ pub extern "C" fn psilt_name(alloc: Global, psilt: &mut Psilt, term: u32, out: &
     )
 }
 
-/// Copies the handle's text to the front of a buffer.
+/// Copies the handle's text to the beginning of a buffer.
 #[unsafe(no_mangle)]
 pub extern "C" fn psilt_text(alloc: Global, psilt: &mut Psilt, buffer: &mut [u8]) -> u32
     ensures answer { OnWork psilt.old psilt.new result

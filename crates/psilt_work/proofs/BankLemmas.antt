@@ -5,8 +5,8 @@ use Rattle.std.specs.FinMap as map
 use Rattle.rx_term.specs.Name.{Signature}
 use Rattle.rx_term.specs.Tree.{Tree}
 use Rattle.rx_term.specs.Store.{Store, signature_of}
-use Rattle.rx_term.specs.Steps.{Grows, MakesOrRefuses, AddsOrRefuses, ReservesOrRefuses, ProtectsOrRefuses, SameBesideContent, with_count}
-use Rattle.rx_term.proofs.StoreLemmas.{Grows-made, Grows-added}
+use Rattle.rx_term.specs.Steps.{Grows, MakesOrRefuses, ReservesOrRefuses, ProtectsOrRefuses, SameBesideContent, with_count}
+use Rattle.rx_term.proofs.StoreLemmas.{Grows-made}
 use Rattle.rx_term.specs.declared.Term.{Term}
 use Rattle.rx_term.specs.declared.Symbol.{Symbol}
 use Rattle.rx_term.specs.declared.faults.BankFault.{BankFault}
@@ -15,7 +15,9 @@ use Rattle.rec_sorts.specs.Linked.{HasMoreSymbols}
 use Rattle.rec_engine.specs.Prepared.{FitsIn}
 use Rattle.rec_engine.specs.declared.engine.prepared.Prepared.{Prepared}
 use Rattle.rec_engine.proofs.BankLemmas.{fits-grown, fits-counted}
-use Rattle.psilt_work.specs.Banks.{AreSymbols}
+use Rattle.psilt_work.specs.Banks.{AreSymbols, BankState, IsSameButTerms}
+use Rattle.psilt_work.specs.Names.{NamesOrRefuses}
+use Rattle.psilt_work.proofs.NameLemmas.{grows_named}
 
 -- what is prepared for a bank fits in it, and it has the symbols that C knows
 abbrev pub IsWhole : Store → Option Prepared → List ℕ → Type 0
@@ -45,9 +47,9 @@ pub fits_made : (old new : Store) (o : Option Prepared) (symbols : List ℕ) (tr
     → MakesOrRefuses old new tree x → IsWhole old o symbols → IsWhole new o symbols
 fits_made old new o symbols tree x m = still_fits old new o symbols (Grows-made old new tree x m)
 
-pub fits_added : (old new : Store) (o : Option Prepared) (symbols : List ℕ) (g : Signature) (x : Result Symbol BankFault) → AddsOrRefuses old new g x
-    → IsWhole old o symbols → IsWhole new o symbols
-fits_added old new o symbols g x m = still_fits old new o symbols (Grows-added old new g x m)
+pub fits_named : (most : ℕ) (old new : Store) (o : Option Prepared) (symbols : List ℕ) (g : Signature) (x : Result Symbol BankFault)
+    → NamesOrRefuses most old new g x → IsWhole old o symbols → IsWhole new o symbols
+fits_named most old new o symbols g x m = still_fits old new o symbols (grows_named most old new g x m)
 
 -- a bank of the same trees and with more room
 same-grows : (old new : Store) → new.content ≡ old.content → SameBesideContent old new → old.spare ≤ new.spare → Grows old new
@@ -90,3 +92,10 @@ grows_linked old new m = record {
   cap = m.cap;
   room = let e = ap map.len m.content in let f = m.spare in omega arith;
 }
+
+-- changes of terms alone, one after the other
+pub same_trans : (a b c : BankState) → IsSameButTerms a b → IsSameButTerms b c → IsSameButTerms a c
+same_trans a b c e f = f ∙ ap (λ (x : BankState). record x { shared = c.shared; memo = c.memo }) e
+
+pub fits_more : (old new : Store) (o : Option Prepared) (symbols : List ℕ) → HasMoreSymbols old new → IsWhole old o symbols → IsWhole new o symbols
+fits_more old new o symbols m h = still_fits old new o symbols (grows_linked old new m) h

@@ -7,4 +7,5 @@ pub mod BankLemmas
 pub mod EvaluatingLemmas
 pub mod PatternLemmas
 pub mod SymbolLemmas
+pub mod NameLemmas
 pub mod MatchingLemmas

@@ -1,13 +1,13 @@
 -- The numbers of the symbols that C knows.
-use Rattle.std.proofs.Common.{◌≡◌, ◌≢◌, ℕ, zero, suc, Bool, true, false, List, [], ◌∷◌, ◌++◌, Option, Some, None, refl, sym, ap, ◌∙◌, subst, slice_get, eq-eqb}
-use Rattle.std.specs.Prelude.{Result, Ok, Err, IsSome, IfOk, OnErr, T, nat_eq, option_map, if◌then◌else◌}
+use Rattle.std.proofs.Common.{◌≡◌, ◌≢◌, ℕ, zero, suc, Bool, true, false, List, [], ◌∷◌, ◌++◌, length, Option, Some, None, refl, sym, ap, ◌∙◌, subst, slice_get, eq-eqb}
+use Rattle.std.specs.Prelude.{Result, Ok, Err, IsSome, IfOk, IfErr, OnErr, T, nat_eq, option_map, if◌then◌else◌}
 use Rattle.std.proofs.Math.Facts.{eqb_yes}
 use Rattle.std.specs.List.{IsDistinct, AllByRecursion}
 use Rattle.std.specs.Option.{option_and_then}
 use Rattle.std.specs.FinMap as map
 use Rattle.rx_term.specs.Name.{Signature}
 use Rattle.rx_term.specs.Store.{Store, signature_of, tree_at}
-use Rattle.rx_term.specs.Steps.{Adds, AddsOrRefuses, Grows, IsSound}
+use Rattle.rx_term.specs.Steps.{Adds, Grows, IsSound}
 use Rattle.rx_term.specs.declared.Term.{Term}
 use Rattle.rx_term.specs.declared.Symbol.{Symbol}
 use Rattle.rx_term.specs.declared.faults.BankFault.{BankFault}
@@ -15,9 +15,11 @@ use Rattle.rx_term.specs.declared.faults.BankFault.TheVariants as bank
 use Rattle.rx_term.proofs.StoreLemmas.{kept-Adds}
 use Rattle.rec_sorts.specs.Linked.{HasMoreSymbols}
 use Rattle.psilt_work.specs.Banks.{BankState, AreSymbols, signature_at, store_of}
-use Rattle.psilt_work.specs.Answers.{Has, IsApplication}
+use Rattle.psilt_work.specs.Answers.{Has, IsApplication, Applies}
+use Rattle.psilt_work.specs.Names.{KeepsLimit, IsNameFault, NamesOrRefuses}
 use Rattle.psilt_work.specs.Codes.{made_of}
-use Rattle.psilt_work.specs.Symbols.{AppliesSymbol, IsNumberOf, KeepsNumbers}
+use Rattle.psilt_work.specs.Evaluating.{IsRoomFault}
+use Rattle.psilt_work.specs.Symbols.{AppliesSymbol, IsNumberOf, KeepsNumbers, RefusesNumber}
 
 all_at : (P : ℕ → Type 0) (ns : List ℕ) (i n : ℕ) → AllByRecursion P ns → slice_get ns i ≡ Some n → P n
 all_at P [] i n all e = cc
@@ -97,10 +99,13 @@ keeps_numbers old new places stays k g h = by_place (slice_get old.symbols k) re
 adds_more : (old new : Store) (g : Signature) (s : Symbol) → Adds old new g s → HasMoreSymbols old new
 adds_more old new g s a = record { content = a.content; roots = a.roots; cap = a.cap; spare = a.spare; symbols = kept-Adds a }
 
-pub more_symbols : (old new : Store) (g : Signature) (r : Result Symbol BankFault) → AddsOrRefuses old new g r → HasMoreSymbols old new
-more_symbols old new g (Ok s) a = adds_more old new g s a
-more_symbols old new g (Err e) a = subst (HasMoreSymbols old) (sym a.0)
-    (record { content = refl; roots = refl; cap = refl; spare = refl; symbols = λ s h e'. e' })
+same_symbols : (old new : Store) → new ≡ old → HasMoreSymbols old new
+same_symbols old new e = subst (HasMoreSymbols old) (sym e) (record { content = refl; roots = refl; cap = refl; spare = refl; symbols = λ s g e'. e' })
+
+pub more_symbols : (most : ℕ) (old new : Store) (g : Signature) (r : Result Symbol BankFault) → NamesOrRefuses most old new g r → HasMoreSymbols old new
+more_symbols most old new g (Ok s) a = adds_more old new g s a.0
+more_symbols most old new g (Err bank.Memory) a = same_symbols old new a
+more_symbols most old new g (Err bank.Full) a = same_symbols old new a.1
 
 -- what the symbol of a number stands for
 pub symbol_at_is : (b : BankState) (n : ℕ) (s : Symbol) → Some s ≡ option_map (λ m. record { 0 = m }) (slice_get b.symbols n)
@@ -123,8 +128,23 @@ as_many o given a e n g h = let both : Some g.arity ≡ Some a = sym (ap (option
 
 -- what is told of its application
 pub applies_symbol : (o : Option Signature) (old new : Store) (args : List ℕ) (r : Result Term BankFault) → IsSome o → Grows old new
-    → IfOk r (λ t. (g : Signature) → o ≡ Some g → IsApplication old g.name g.quoted args (tree_at new t)) → AppliesSymbol o old new args (made_of r)
-applies_symbol (Some g) old new args (Ok t) h grows is = ((g, refl, is g refl), grows)
-applies_symbol None old new args (Ok t) h grows is = cc
-applies_symbol o old new args (Err bank.Memory) h grows is = grows
-applies_symbol o old new args (Err bank.Full) h grows is = grows
+    → IfOk r (λ t. (g : Signature) → o ≡ Some g → IsApplication old g.name g.quoted args (tree_at new t)) → IfErr r (IsRoomFault new)
+    → AppliesSymbol o old new args (made_of r)
+applies_symbol (Some g) old new args (Ok t) h grows is full = ((g, refl, is g refl), grows)
+applies_symbol None old new args (Ok t) h grows is full = cc
+applies_symbol o old new args (Err bank.Memory) h grows is full = grows
+applies_symbol o old new args (Err bank.Full) h grows is full = (full, grows)
+
+-- what is told of the application of a name
+pub applies_name : (most : ℕ) (old new : Store) (name : List ℕ) (quoted : Bool) (args : List ℕ) (r : Result Term BankFault) → Grows old new
+    → IfOk r (λ t. IsApplication old name quoted args (tree_at new t)) → IfOk r (λ t. KeepsLimit most old new)
+    → IfErr r (IsNameFault most old new (record { name = name; quoted = quoted; arity = length args })) → Applies most old new name quoted args (made_of r)
+applies_name most old new name quoted args (Ok t) grows is limit full = (is, grows, limit)
+applies_name most old new name quoted args (Err bank.Memory) grows is limit full = grows
+applies_name most old new name quoted args (Err bank.Full) grows is limit full = (full, grows)
+
+-- why a symbol has no number
+pub refuses_number : (old new : BankState) (g : Signature) (fault : BankFault) → new.symbols ≡ old.symbols
+    → NamesOrRefuses old.most_names (store_of old) (store_of new) g (Err fault) → RefusesNumber old new g fault
+refuses_number old new g bank.Memory e h = e
+refuses_number old new g bank.Full e h = (h.0, h.1, e)

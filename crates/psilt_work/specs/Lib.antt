@@ -1,4 +1,5 @@
 pub mod Codes
+pub mod Names
 pub mod Banks
 pub mod Answers
 pub mod Works

@@ -1,4 +1,4 @@
-//! Why a call does nothing.
+//! The errors of the calls, and their numbers.
 
 ghost use Rattle.std.specs.Prelude.{◌≡◌};
 ghost use Rattle.psilt_work.specs.Codes.{made_of, code_of};
@@ -7,49 +7,51 @@ use rx_term::{BankFault, Term};
 use std::fmt;
 use thiserror::Error;
 
-/// Why a call does nothing. The numbers are those that C is told; 0 is that it was done.
+/// Why a call fails. C gets these numbers; 0 means success.
 #[derive(Clone, Copy, PartialEq, Eq, Debug, Drop, Error)]
 pub enum Fault {
-    /// Memory ran out.
+    /// Out of memory.
     Memory = 1,
-    /// The bank has as many cells as it may have.
+    /// All cells up to the limit are in use, or the number of names is at its limit.
     Full = 2,
     /// The handle is not open.
     Closed = 3,
-    /// A reference is not there.
+    /// A reference is not in the term store.
     Stale = 4,
-    /// A term is of another kind than the call takes.
+    /// A term has another kind than the call takes.
     Kind = 5,
     /// The text is outside its grammar.
     Syntax = 6,
-    /// A number or a length is outside its range, or a buffer too short.
+    /// A number or a length is outside its range, or a buffer is too short.
     Range = 7,
-    /// The name is not quoted, and would have to be.
+    /// The name is not quoted, and has to be.
     Name = 8,
-    /// The term is protected as often as it can be.
+    /// The term is protected as often as possible.
     Roots = 9,
     /// The term is not protected.
     Unprotected = 10,
     /// The handle is open already.
     Open = 11,
-    /// The text of a specification, or a term, breaks a rule.
+    /// A specification, a pattern or a term violates a rule.
     Rule = 12,
-    /// More steps are needed than were given.
+    /// More steps are needed than the step limit allows.
     Limit = 13,
-    /// Nothing is specified.
+    /// There is no specification.
     Unspecified = 14,
     /// The term does not match the pattern.
     Unmatched = 15,
     /// No pattern, or no symbol, has the number.
     Unknown = 16,
+    /// A stop of the evaluation was requested.
+    Interrupted = 17,
 }
 
 impl Fault {
-    /// What it says.
+    /// Returns the message of the error.
     fn words(self) -> &'static str {
         match self {
             Fault::Memory => "out of memory",
-            Fault::Full => "out of cells",
+            Fault::Full => "out of cells or names",
             Fault::Closed => "the handle is closed",
             Fault::Stale => "no such reference",
             Fault::Kind => "a term of another kind",
@@ -64,6 +66,7 @@ impl Fault {
             Fault::Unspecified => "nothing is specified",
             Fault::Unmatched => "no match",
             Fault::Unknown => "no such pattern or symbol",
+            Fault::Interrupted => "interrupted",
         }
     }
 }
@@ -74,7 +77,7 @@ impl fmt::Display for Fault {
     }
 }
 
-/// What a make of the bank comes to.
+/// Returns the result of a constructor of the term store, with the error of the library.
 pub(crate) fn term_or_fault(answer: Result<Term, BankFault>) -> Result<Term, Fault>
     ensures { result ≡ made_of answer }
 {
@@ -85,7 +88,7 @@ pub(crate) fn term_or_fault(answer: Result<Term, BankFault>) -> Result<Term, Fau
     }
 }
 
-/// The number of an answer: 0 where it is done.
+/// Returns the number of a result: 0 for success.
 pub fn code<T: Drop>(answer: &Result<T, Fault>) -> u32
     ensures { result ≡ code_of answer.now }
 {

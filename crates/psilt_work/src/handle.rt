@@ -1,4 +1,4 @@
-//! The handle that C holds.
+//! The handle that C has.
 
 ghost use Rattle.std.specs.Prelude.{◌≡◌, IsSome};
 
@@ -7,8 +7,8 @@ use crate::held::Held;
 use crate::loose::Loose;
 use std::alloc::Global;
 
-/// What C holds: a word that is 1 while the handle is open, and a pointer that C never follows.
-/// Contracts see the work, and none while the handle is closed.
+/// The handle that C has: a word that is 1 while the handle is open, and a pointer that C never
+/// follows. Contracts see the work of an open handle, and none of a closed one.
 #[repr(C)]
 #[derive(Drop)]
 pub struct Psilt {
@@ -22,7 +22,7 @@ impl Psilt {
     ghost use Rattle.std.specs.Option.{option_map};
     ghost use Rattle.psilt_work.specs.Handles.{work_of};
 
-    /// A handle that is closed.
+    /// Returns a closed handle.
     pub fn new() -> Psilt
         ensures { work_of result ≡ None }
     {
@@ -32,7 +32,7 @@ impl Psilt {
         }
     }
 
-    /// A handle that holds the work.
+    /// Returns an open handle with this work.
     fn of(work: Box<Work>) -> Psilt
         ensures { work_of result ≡ Some work.value }
     {
@@ -42,7 +42,8 @@ impl Psilt {
         }
     }
 
-    /// The work, which is taken out: the handle is closed then.
+    /// Takes the work out of the handle, which is closed afterwards. Returns `None` if it was
+    /// closed.
     pub fn take(&mut self, alloc: Global) -> Option<Box<Work>>
         ensures taken { work_of self.old ≡ option_map (λ b. b.value) result }
         ensures closed { work_of self.new ≡ None }
@@ -54,7 +55,7 @@ impl Psilt {
         Some(held.into_loose(alloc).into_box())
     }
 
-    /// Puts the work into a handle that was closed.
+    /// Opens a closed handle with this work.
     pub fn put(&mut self, work: Box<Work>)
         requires { work_of self.old ≡ None }
         ensures { work_of self.new ≡ Some work.value }

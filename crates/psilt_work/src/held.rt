@@ -1,4 +1,4 @@
-//! A box as its pointer, or no box.
+//! An optional box, stored as its pointer.
 
 ghost use Rattle.std.specs.Prelude.{◌≡◌, Option, Some, None, IsSome};
 ghost use Rattle.std.specs.Coded.{coded_option};
@@ -10,7 +10,7 @@ use crate::loose::Loose;
 use std::alloc::Global;
 use std::marker::Model;
 
-/// A box as its pointer, which C can hold, or no box.
+/// An optional box, stored as a pointer that C can keep.
 #[repr(C)]
 #[derive(Drop)]
 pub struct Held {
@@ -25,7 +25,7 @@ impl Model for Held {
 }
 
 impl Held {
-    /// No box.
+    /// Returns an optional box without a box.
     pub fn none() -> Held
         ensures { result.value ≡ None }
     {
@@ -34,7 +34,7 @@ impl Held {
         }
     }
 
-    /// A loose box.
+    /// Makes an optional box from a loose box.
     pub fn of(loose: Loose<Work, Global>) -> Held
         ensures { result.value ≡ Some loose.value }
     {
@@ -42,7 +42,7 @@ impl Held {
         Held { at: at as *mut u8 }
     }
 
-    /// The loose box.
+    /// Returns the loose box.
     pub fn into_loose(self, alloc: Global) -> Loose<Work, Global>
         requires { IsSome self.value }
         ensures { self.value ≡ Some result.value }

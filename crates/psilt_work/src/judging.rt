@@ -1,4 +1,4 @@
-//! The verdict on the text of a specification.
+//! Reads and checks the text of a specification.
 
 ghost use Rattle.std.specs.Prelude.{◌≤◌, IfOk, IfErr, length};
 ghost use Rattle.rec_syntax.specs.Grammar.{SpecText};
@@ -9,20 +9,20 @@ use rec_sorts::{Checked, SortFault, check};
 use rec_syntax::{Syntax, SyntaxFault, read_spec};
 use std::alloc::Global;
 
-/// Why a text is no good specification.
+/// Why a text is rejected as a specification.
 #[derive(Clone, Copy, Debug, Drop)]
 pub enum Refusal {
-    /// Memory ran out, so that it is not known.
+    /// Out of memory, so the verdict is not known.
     Memory,
-    /// It has more than 16,777,216 bytes.
+    /// The text has more than 16,777,216 bytes.
     Long,
-    /// It leaves its grammar there.
+    /// The text leaves its grammar at this offset.
     Grammar { at: u32 },
-    /// It breaks this rule there first, by its number from 1 to 11.
+    /// The text violates this rule first, at this offset; rules have the numbers 1 to 11.
     Rule { number: u8, at: u32 },
 }
 
-/// The good specification that a text spells.
+/// Returns the well-formed specification that a text spells.
 pub(crate) fn judge(alloc: Global, text: &[u8]) -> Result<Checked, Refusal>
     ensures good { IfOk result (λ c. SpecVerdict text.now (Good c.spec)) }
     ensures refused { IfErr result (IsRefusal text.now) }
@@ -35,7 +35,7 @@ pub(crate) fn judge(alloc: Global, text: &[u8]) -> Result<Checked, Refusal>
     }
 }
 
-/// The same of a text that spells a specification.
+/// Checks a specification that was read against the rules S1 to S11.
 fn judge_rules(alloc: Global, syntax: Syntax) -> Result<Checked, Refusal>
     requires short { length syntax.source ≤ 16777216 }
     requires spelled { SpecText syntax.source syntax.spec }

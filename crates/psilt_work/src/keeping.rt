@@ -1,4 +1,4 @@
-//! Which terms stay.
+//! Protection and garbage collection.
 
 ghost use Rattle.std.specs.Prelude.{◌≡◌, [], IfOk, OnErr, OnOk};
 ghost use Rattle.psilt_work.specs.Banks.{store_of};
@@ -11,8 +11,8 @@ use rx_term::{Term, TermBank};
 use std::alloc::{AllocError, Global};
 
 impl Work {
-    /// Counts a term as a root once more, so that it stays. `Roots` where it is counted 65,535
-    /// times.
+    /// Increases the protection count of a term, which makes it a root. `Roots` if the count is
+    /// 65,535.
     pub fn protect(&mut self, t: Term) -> Result<(), Fault>
         ensures answer { Protects (store_of self.old.bank) (store_of self.new.bank) t result }
         ensures beside { IsSameButBank self.old self.new }
@@ -26,7 +26,7 @@ impl Work {
         }
     }
 
-    /// Counts a term as a root once less. `Unprotected` where it is counted 0 times.
+    /// Decreases the protection count of a term. `Unprotected` if the count is 0.
     pub fn unprotect(&mut self, t: Term) -> Result<(), Fault>
         ensures answer { Unprotects (store_of self.old.bank) (store_of self.new.bank) t result }
         ensures beside { IsSameButBank self.old self.new }
@@ -38,8 +38,8 @@ impl Work {
         Ok(())
     }
 
-    /// Gives up all terms but those that the roots and the terms of the given numbers reach. The
-    /// bindings of the last match are forgotten.
+    /// Frees all terms that neither the roots nor the terms of these numbers reach, and drops the
+    /// bindings of the last match. After an error the bindings are unchanged.
     pub fn reclaim(&mut self, alloc: Global, kept: &[u32]) -> Result<(), Fault>
         ensures answer { Keeps (store_of self.old.bank) (store_of self.new.bank) kept.now result }
         ensures forgotten { OnOk result (self.new.bound.items ≡ []) }
@@ -58,7 +58,7 @@ impl Work {
     }
 }
 
-/// The references of some numbers.
+/// Returns the references that have these numbers.
 pub(crate) fn references(alloc: Global, numbers: &[u32]) -> Result<Vec<Term>, AllocError>
     ensures { IfOk result (λ v. v.items ≡ terms_of numbers.now) }
 {

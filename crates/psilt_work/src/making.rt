@@ -1,14 +1,16 @@
-//! Terms are made of references.
+//! Makes terms from references.
 
-ghost use Rattle.std.specs.Prelude.{◌≡◌, List, [], ◌∷◌, length, Some, IfOk, IsSome, IsTrue};
+ghost use Rattle.std.specs.Prelude.{◌≡◌, List, [], ◌∷◌, length, Some, IfErr, IfOk, IsSome, IsTrue};
 ghost use Rattle.rx_term.specs.Tree.{Int, Items, none};
 ghost use Rattle.rx_term.specs.Name.{IsAllowed, Signature};
 ghost use Rattle.rx_term.specs.Store.{tree_at, signature_of, longer, held_open, noted};
 ghost use Rattle.rx_term.specs.Steps.{Grows};
 ghost use Rattle.rx_term.specs.Walks.{Lists};
-ghost use Rattle.psilt_work.specs.Banks.{store_of};
+ghost use Rattle.psilt_work.specs.Banks.{IsSameButTerms, store_of};
 ghost use Rattle.psilt_work.specs.Answers.{are_held, terms_of, is_plain_list, MakesFrom};
 ghost use Rattle.psilt_work.specs.Answers.{Applies, IsApplication};
+ghost use Rattle.psilt_work.specs.Evaluating.{IsRoomFault};
+ghost use Rattle.psilt_work.specs.Names.{IsNameFault, KeepsLimit};
 ghost use Rattle.psilt_work.specs.Works.{IsSameButBank};
 
 use crate::fault::term_or_fault;
@@ -16,7 +18,7 @@ use crate::{Bank, Fault, Work};
 use rx_term::{BankFault, Kind, Symbol, Term, TermBank, plain_name};
 
 impl Work {
-    /// Whether there are all references of these numbers.
+    /// Returns whether all references of these numbers are in the store.
     pub fn are_held(&self, given: &[u32]) -> bool
         ensures { result ≡ are_held (store_of self.now.bank) given.now }
     {
@@ -24,7 +26,7 @@ impl Work {
         given.iter().all(|n| bank.holds(Term(*n)))
     }
 
-    /// Whether the reference is there and is a list without annotations.
+    /// Returns whether the reference is in the store and is a list without annotations.
     fn is_plain_list(&self, t: Term) -> bool
         ensures { result ≡ is_plain_list (tree_at (store_of self.now.bank) t) }
     {
@@ -42,7 +44,7 @@ impl Work {
         }
     }
 
-    /// An integer.
+    /// Makes an integer.
     pub fn int(&mut self, value: i32) -> Result<Term, Fault>
         ensures answer { MakesFrom (store_of self.old.bank) (store_of self.new.bank) []
             (Some (Int value none)) result }
@@ -51,7 +53,7 @@ impl Work {
         term_or_fault(self.bank.int(value))
     }
 
-    /// The empty list.
+    /// Makes the empty list.
     pub fn nil(&mut self) -> Result<Term, Fault>
         ensures answer { MakesFrom (store_of self.old.bank) (store_of self.new.bank) []
             (Some (Items none none)) result }
@@ -60,7 +62,8 @@ impl Work {
         term_or_fault(self.bank.nil())
     }
 
-    /// A list with one item more in front. `Kind` where the tail is no list without annotations.
+    /// Makes the list of an item and the items of a list. `Kind` if the tail is not a list without
+    /// annotations.
     pub fn cons(&mut self, head: Term, tail: Term) -> Result<Term, Fault>
         ensures answer { let w = store_of self.old.bank in
             MakesFrom w (store_of self.new.bank) (head.0 ∷ tail.0 ∷ [])
@@ -76,7 +79,7 @@ impl Work {
         term_or_fault(self.bank.cons(head, tail))
     }
 
-    /// A placeholder of a term.
+    /// Makes a placeholder of a term.
     pub fn hole(&mut self, inner: Term) -> Result<Term, Fault>
         ensures answer { let w = store_of self.old.bank in
             MakesFrom w (store_of self.new.bank) (inner.0 ∷ [])
@@ -89,8 +92,8 @@ impl Work {
         term_or_fault(self.bank.hole(inner))
     }
 
-    /// A term with the items of a list in place of its annotations. `Kind` where the list has
-    /// annotations itself, or is none.
+    /// Makes a term whose annotations are replaced by the items of a list. `Kind` if the list has
+    /// annotations itself, or is not a list.
     pub fn annotate(&mut self, t: Term, anns: Term) -> Result<Term, Fault>
         ensures answer { let w = store_of self.old.bank in
             MakesFrom w (store_of self.new.bank) (t.0 ∷ anns.0 ∷ [])
@@ -106,11 +109,12 @@ impl Work {
         term_or_fault(self.bank.annotate(t, anns))
     }
 
-    /// An application of a name to the terms of some numbers. `Name` where the name is not quoted
-    /// and is neither empty nor one that may stand without quotes.
+    /// Applies a name to the terms of these numbers. `Name` if the name is not quoted, not empty
+    /// and not a plain name; `Full` if all cells are in use, or if the name is new and the number
+    /// of names is at its limit.
     pub fn appl(&mut self, name: &[u8], quoted: bool, args: &[u32]) -> Result<Term, Fault>
-        ensures answer { Applies (store_of self.old.bank) (store_of self.new.bank) name.now quoted
-            args.now result }
+        ensures answer { Applies self.old.bank.most_names (store_of self.old.bank)
+            (store_of self.new.bank) name.now quoted args.now result }
         ensures beside { IsSameButBank self.old self.new }
     {
         if !quoted && !plain_name(name) && !name.is_empty() {
@@ -126,7 +130,7 @@ impl Work {
     }
 }
 
-/// The application of a name to the terms of some numbers, which are there.
+/// Applies a name to the terms of these numbers, which are in the store.
 fn apply_name(
     bank: &mut Bank,
     name: &[u8],
@@ -140,14 +144,17 @@ fn apply_name(
     ensures grows { Grows (store_of bank.old) (store_of bank.new) }
     ensures made { IfOk result (λ r. IsApplication (store_of bank.old) name.now quoted args.now
         (tree_at (store_of bank.new) r)) }
-    ensures same { bank.new.specified ≡ bank.old.specified }
-    ensures known { bank.new.symbols ≡ bank.old.symbols }
+    ensures limit { IfOk result
+        (λ r. KeepsLimit bank.old.most_names (store_of bank.old) (store_of bank.new)) }
+    ensures full { IfErr result (IsNameFault bank.old.most_names (store_of bank.old)
+        (store_of bank.new) (record { name = name.now; quoted = quoted; arity = arity })) }
+    ensures beside { IsSameButTerms bank.old bank.new }
 {
     let symbol = bank.symbol(name, quoted, arity)?;
     apply_symbol(bank, symbol, args)
 }
 
-/// The application of a symbol to the terms of some numbers, which are there.
+/// Applies a symbol to the terms of these numbers, which are in the store.
 pub(crate) fn apply_symbol(bank: &mut Bank, symbol: Symbol, args: &[u32]) -> Result<Term, BankFault>
     requires symbol { IsSome (signature_of (store_of bank.old) symbol) }
     requires args { IsTrue (are_held (store_of bank.old) args.now) }
@@ -158,21 +165,23 @@ pub(crate) fn apply_symbol(bank: &mut Bank, symbol: Symbol, args: &[u32]) -> Res
         → signature_of (store_of bank.old) symbol ≡ Some g
         → IsApplication (store_of bank.old) g.name g.quoted args.now
         (tree_at (store_of bank.new) r)) }
-    ensures same { bank.new.specified ≡ bank.old.specified }
-    ensures known { bank.new.symbols ≡ bank.old.symbols }
+    ensures full { IfErr result (IsRoomFault (store_of bank.new)) }
+    ensures named { (store_of bank.new).symbols ≡ (store_of bank.old).symbols }
+    ensures beside { IsSameButTerms bank.old bank.new }
 {
     let list = list(bank, args)?;
     bank.appl(symbol, list)
 }
 
-/// The list of the terms of some numbers, which are there.
+/// Makes the list of the terms of these numbers, which are in the store.
 fn list(bank: &mut Bank, items: &[u32]) -> Result<Term, BankFault>
     requires { IsTrue (are_held (store_of bank.old) items.now) }
     ensures grows { Grows (store_of bank.old) (store_of bank.new) }
     ensures made { IfOk result (λ r. Lists (store_of bank.old) (terms_of items.now)
         (tree_at (store_of bank.new) r)) }
-    ensures same { bank.new.specified ≡ bank.old.specified }
-    ensures known { bank.new.symbols ≡ bank.old.symbols }
+    ensures full { IfErr result (IsRoomFault (store_of bank.new)) }
+    ensures named { (store_of bank.new).symbols ≡ (store_of bank.old).symbols }
+    ensures beside { IsSameButTerms bank.old bank.new }
 {
     let mut list = bank.nil()?;
     let mut left = items.len();

@@ -1,6 +1,6 @@
-//! Symbols get numbers, and are applied by them.
+//! Numbers of symbols, and applications of numbered symbols.
 
-ghost use Rattle.std.specs.Prelude.{◌≡◌, ℕ, length, Some, IfOk, IfSome, IsSome, IsTrue, OnErr};
+ghost use Rattle.std.specs.Prelude.{◌≡◌, ℕ, length, Some, IfErr, IfOk, IfSome, IsSome, IsTrue};
 ghost use Rattle.std.specs.Prelude.{option_map, slice_get};
 ghost use Rattle.rx_term.specs.Name.{IsAllowed, Signature};
 ghost use Rattle.rx_term.specs.Store.{tree_at, signature_of};
@@ -8,42 +8,48 @@ ghost use Rattle.rx_term.specs.Steps.{Grows};
 ghost use Rattle.rec_sorts.specs.Linked.{HasMoreSymbols};
 ghost use Rattle.psilt_work.specs.Banks.{signature_at, store_of};
 ghost use Rattle.psilt_work.specs.Answers.{are_held, IsApplication};
+ghost use Rattle.psilt_work.specs.Names.{names_of, KeepsLimit};
 ghost use Rattle.psilt_work.specs.Symbols.{AppliesSymbol, GivesNumber, IsNumberOf, KeepsNumbers};
-ghost use Rattle.psilt_work.specs.Works.{IsSameButBank, IsSameButSymbols};
+ghost use Rattle.psilt_work.specs.Symbols.{RefusesNumber};
+ghost use Rattle.psilt_work.specs.Works.{IsSameButBank, IsSameButLimit, IsSameButSymbols};
 
 use crate::fault::term_or_fault;
 use crate::making::apply_symbol;
 use crate::{Bank, Fault, Work};
-use rx_term::{Symbol, Term, TermBank, plain_name};
-use std::alloc::AllocError;
+use rx_term::{BankFault, Symbol, Term, TermBank, plain_name};
 
 impl Bank {
-    /// The number of the one symbol of a name, a flag and a number of arguments. The error is want
-    /// of memory.
+    /// Returns the number of the one symbol with this name, flag and number of arguments. `Full` if
+    /// the symbol is new and the number of symbols is at its limit.
     pub(crate) fn number(
         &mut self,
         name: &[u8],
         quoted: bool,
         arity: u32,
-    ) -> Result<usize, AllocError>
+    ) -> Result<usize, BankFault>
         requires { IsAllowed name.now quoted }
         ensures number { IfOk result (IsNumberOf self.new
             (record { name = name.now; quoted = quoted; arity = arity })) }
         ensures keeps { KeepsNumbers self.old self.new }
         ensures store { HasMoreSymbols (store_of self.old) (store_of self.new) }
-        ensures refused { OnErr result (self.new.symbols ≡ self.old.symbols) }
-        ensures same { self.new.specified ≡ self.old.specified }
+        ensures limit { KeepsLimit self.old.most_names (store_of self.old) (store_of self.new) }
+        ensures refused { IfErr result (RefusesNumber self.old self.new
+            (record { name = name.now; quoted = quoted; arity = arity })) }
+        ensures beside { self.new
+            ≡ record self.old { shared = self.new.shared; symbols = self.new.symbols } }
     {
-        let Ok(symbol) = self.shared.symbol(name, quoted, arity) else {
-            return Err(AllocError);
+        self.shared.allow(self.most_names);
+        let symbol = match self.shared.intern(name, quoted, arity) {
+            Ok(symbol) => symbol,
+            Err(fault) => return Err(fault),
         };
         match self.symbols.insert_full(symbol.0) {
             Ok((place, _)) => Ok(place),
-            Err(_) => Err(AllocError),
+            Err(_) => Err(BankFault::Memory),
         }
     }
 
-    /// The symbol of a number, where it stands for one.
+    /// Returns the symbol that has a number for C, if there is one.
     pub(crate) fn symbol_at(&self, n: usize) -> Option<Symbol>
         ensures symbol { result
             ≡ option_map (λ (s : ℕ). record { 0 = s }) (slice_get self.now.symbols n) }
@@ -57,9 +63,9 @@ impl Bank {
 }
 
 impl Work {
-    /// The number of the one symbol of a name, a flag and a number of arguments: equal ones get
-    /// equal numbers. `Name` where the name is not quoted and is neither empty nor one that may
-    /// stand without quotes.
+    /// Returns the number of the one symbol with this name, flag and number of arguments; equal
+    /// symbols get equal numbers. `Name` if the name is not quoted, not empty and not a plain name;
+    /// `Full` if the symbol is new and the number of symbols is at its limit.
     pub fn symbol(&mut self, name: &[u8], quoted: bool, arity: u32) -> Result<usize, Fault>
         ensures answer { GivesNumber self.old.bank self.new.bank
             (record { name = name.now; quoted = quoted; arity = arity }) result }
@@ -70,12 +76,28 @@ impl Work {
         }
         match self.bank.number(name, quoted, arity) {
             Ok(n) => Ok(n),
-            Err(_) => Err(Fault::Memory),
+            Err(BankFault::Memory) => Err(Fault::Memory),
+            Err(BankFault::Full) => Err(Fault::Full),
         }
     }
 
-    /// The application of a symbol to the terms of some numbers. `Unknown` where the number stands
-    /// for no symbol, `Range` where the symbol has another number of arguments.
+    /// Returns the number of names. Names with other quotes or another number of arguments are
+    /// counted apart.
+    pub fn names(&self) -> u32
+        ensures { result ≡ names_of (store_of self.now.bank) }
+    {
+        self.bank.names()
+    }
+
+    /// Limits the number of names to `most`. If there are more already, none is added.
+    pub fn limit_names(&mut self, most: u32)
+        ensures { IsSameButLimit self.old self.new most }
+    {
+        self.bank.limit_names(most);
+    }
+
+    /// Applies a numbered symbol to the terms of these numbers. `Unknown` if no symbol has the
+    /// number, `Range` if the symbol has another number of arguments.
     pub fn apply(&mut self, n: usize, args: &[u32]) -> Result<Term, Fault>
         ensures answer { AppliesSymbol (signature_at self.old.bank n) (store_of self.old.bank)
             (store_of self.new.bank) args.now result }

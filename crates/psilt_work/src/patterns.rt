@@ -1,21 +1,22 @@
 //! The patterns of a handle.
 
 ghost use Rattle.std.specs.Prelude.{◌≡◌, ◌≤◌, [], length, List, None, Option, IfOk, IsFalse};
-ghost use Rattle.std.specs.Prelude.{IsTrue, OnErr};
+ghost use Rattle.std.specs.Prelude.{IsTrue, OnErr, option_map};
 ghost use Rattle.core.specs.Option.{option_copied};
 ghost use Rattle.rx_term.specs.Tree.{Tree};
+ghost use Rattle.rx_pattern.specs.Filling.{blanks};
 ghost use Rattle.psilt_work.specs.Patterns.{Gets, Loses, pattern_at, patterns_code};
 
 use rx_pattern::Pattern;
 use std::alloc::{AllocError, Global};
 use std::marker::Model;
 
-/// Patterns, each known by a number, which is free again once it is removed. Contracts see what has
+/// Patterns by number. The number of a removed pattern is free again. Contracts see the pattern of
 /// each number.
 #[derive(Drop)]
 pub struct Patterns {
     places: Vec<Option<Pattern>>,
-    /// No place before this one is free.
+    /// No entry before this index is free.
     first: usize,
 }
 
@@ -28,7 +29,7 @@ impl Model for Patterns {
 }
 
 impl Patterns {
-    /// No patterns.
+    /// Returns an empty set of patterns.
     pub(crate) fn new(alloc: Global) -> Patterns
         ensures { result ≡ [] }
     {
@@ -38,7 +39,7 @@ impl Patterns {
         }
     }
 
-    /// The pattern of a number, where there is one.
+    /// Returns the pattern of a number, if there is one.
     pub(crate) fn get(&self, n: usize) -> Option<&Pattern>
         ensures { option_copied result ≡ pattern_at self.now n }
     {
@@ -49,7 +50,17 @@ impl Patterns {
         }
     }
 
-    /// Gives a number to a pattern.
+    /// Returns the number of placeholders of a numbered pattern, if there is one.
+    pub(crate) fn placeholders(&self, n: usize) -> Option<usize>
+        ensures { result ≡ option_map (λ p. length (blanks p)) (pattern_at self.now n) }
+    {
+        match self.get(n) {
+            Some(pattern) => Some(pattern.placeholders()),
+            None => None,
+        }
+    }
+
+    /// Stores a pattern and returns its number.
     pub(crate) fn add(&mut self, pattern: Pattern) -> Result<usize, AllocError>
         ensures added { IfOk result (λ n. Gets self.old self.new n pattern) }
         ensures refused { OnErr result (self.new ≡ self.old) }
@@ -64,7 +75,7 @@ impl Patterns {
         Ok(n)
     }
 
-    /// The first place that is free, or the one behind all.
+    /// Returns the index of the first free entry, or the number of entries if none is free.
     fn free_place(&self) -> usize
         ensures free { pattern_at self.now result ≡ None }
         ensures within { result ≤ length self.now }
@@ -77,7 +88,7 @@ impl Patterns {
         self.places.len()
     }
 
-    /// Takes the number of a pattern away, where it has one.
+    /// Removes the pattern of a number. Returns `false` if there is none.
     pub(crate) fn remove(&mut self, n: usize) -> bool
         ensures removed { IsTrue result → Loses self.old self.new n }
         ensures refused { IsFalse result → (pattern_at self.old n ≡ None) × (self.new ≡ self.old) }

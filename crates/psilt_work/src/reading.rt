@@ -1,4 +1,4 @@
-//! What terms are made of.
+//! The parts of terms.
 
 ghost use Rattle.std.specs.Prelude.{◌≡◌, IsSome};
 ghost use Rattle.rx_term.specs.Store.{tree_at, head_of, tail_of, args_of, inner_of, anns_of};
@@ -13,7 +13,7 @@ use rx_shared::SharedBank;
 use rx_term::{Kind, Symbol, Term, TermBank};
 
 impl Work {
-    /// Whether the reference is there: `Stale` where it is not.
+    /// Checks that the reference is in the store. `Stale` if it is not.
     pub fn holds(&self, t: Term) -> Result<(), Fault>
         ensures { let w = store_of self.now.bank in
             Looks w t (λ (_ : Unit {0}). IsSome (tree_at w t)) result }
@@ -25,7 +25,7 @@ impl Work {
         }
     }
 
-    /// What the term is.
+    /// Returns the kind of a term.
     pub fn kind(&self, t: Term) -> Result<Kind, Fault>
         ensures { Looks (store_of self.now.bank) t (HasKind (store_of self.now.bank) t) result }
     {
@@ -37,7 +37,7 @@ impl Work {
         }
     }
 
-    /// The first item of a list.
+    /// Returns the first item of a list.
     pub fn head(&self, t: Term) -> Result<Term, Fault>
         ensures { ReadsPart (store_of self.now.bank) t head_of result }
     {
@@ -54,7 +54,7 @@ impl Work {
         }
     }
 
-    /// A list without its first item and without annotations.
+    /// Returns a list without its first item and without annotations.
     pub fn tail(&self, t: Term) -> Result<Term, Fault>
         ensures { ReadsPart (store_of self.now.bank) t tail_of result }
     {
@@ -71,7 +71,7 @@ impl Work {
         }
     }
 
-    /// The arguments of an application, as a list.
+    /// Returns the arguments of an application, as a list.
     pub fn args(&self, t: Term) -> Result<Term, Fault>
         ensures { ReadsPart (store_of self.now.bank) t args_of result }
     {
@@ -88,7 +88,7 @@ impl Work {
         }
     }
 
-    /// What stands inside a placeholder.
+    /// Returns the term inside a placeholder.
     pub fn inner(&self, t: Term) -> Result<Term, Fault>
         ensures { ReadsPart (store_of self.now.bank) t inner_of result }
     {
@@ -105,7 +105,7 @@ impl Work {
         }
     }
 
-    /// The annotations, as a list. `Kind` where there are none.
+    /// Returns the annotations, as a list. `Kind` if there are none.
     pub fn annotations(&self, t: Term) -> Result<Term, Fault>
         ensures { ReadsPart (store_of self.now.bank) t anns_of result }
     {
@@ -119,7 +119,7 @@ impl Work {
         }
     }
 
-    /// The symbol of an application.
+    /// Returns the symbol of an application.
     pub(crate) fn symbol_of(&self, t: Term) -> Result<Symbol, Fault>
         ensures { ReadsSymbol (store_of self.now.bank) t result }
     {
@@ -136,8 +136,8 @@ impl Work {
         }
     }
 
-    /// The argument of an application at a place, from 0. `Range` where it has no more arguments
-    /// than that.
+    /// Returns the argument of an application with the index `i`, from 0. `Range` if it has no more
+    /// than `i` arguments.
     pub fn arg(&self, t: Term, i: u32) -> Result<Term, Fault>
         ensures { ReadsArg (store_of self.now.bank) t i result }
     {
@@ -152,7 +152,7 @@ impl Work {
         Ok(item(bank, bank.args(t), i))
     }
 
-    /// Whether the name of an application is quoted.
+    /// Returns whether the name of an application is quoted.
     pub fn is_quoted(&self, t: Term) -> Result<bool, Fault>
         ensures { ReadsOf (store_of self.now.bank) t quoted_in result }
     {
@@ -162,7 +162,7 @@ impl Work {
         }
     }
 
-    /// How many arguments an application has.
+    /// Returns the number of arguments of an application.
     pub fn arity(&self, t: Term) -> Result<u32, Fault>
         ensures { ReadsOf (store_of self.now.bank) t arity_in result }
     {
@@ -173,7 +173,7 @@ impl Work {
     }
 }
 
-/// The item of a list at a place, from 0.
+/// Returns the item of a list with the index `i`, from 0.
 fn item(bank: &SharedBank, list: Term, i: u32) -> Term
     requires { IsPlaceIn i (tree_at (terms_in bank.now) list) }
     ensures { let w = terms_in bank.now in

@@ -1,4 +1,4 @@
-//! The verdict on the text of a pattern, which is read in a bank of its own.
+//! Reads and checks the text of a pattern, in a term store of its own.
 
 ghost use Rattle.std.specs.Prelude.{◌≡◌, IsSome, IfOk, IfErr, None, Some};
 ghost use Rattle.rx_term.specs.Tree.{Tree};
@@ -14,32 +14,38 @@ use rx_term::Term;
 use rx_text::{TextFault, read};
 use std::alloc::Global;
 
-/// Why a text spells no pattern.
+/// The largest length of a text, in bytes.
+const LONGEST: usize = 16_777_216;
+
+/// Why a text is rejected as a pattern.
 #[derive(Clone, Copy, Debug, Drop)]
 pub enum NoPattern {
-    /// Memory, or room for its terms, ran out, so that it is not known.
+    /// Out of memory or cells, so the verdict is not known.
     Memory,
-    /// It has more than 16,777,216 bytes.
+    /// The text has more than 16,777,216 bytes.
     Long,
-    /// It leaves the grammar there.
+    /// The text leaves the grammar at this offset.
     Grammar { at: u32 },
-    /// A placeholder breaks this rule: 1 where it is not one of the six, else 2 where it has
+    /// A placeholder violates this rule: 1 if it is not one of the six, otherwise 2 if it has
     /// annotations.
     Rule { number: u32 },
 }
 
-/// The pattern that a text spells.
+/// Returns the pattern that a text spells.
 pub(crate) fn read_pattern(alloc: Global, text: &[u8]) -> Result<Pattern, NoPattern>
     ensures pattern { IfOk result (SpellsPattern text.now) }
     ensures none { IfErr result (IsNoPattern text.now) }
 {
+    if text.len() > LONGEST {
+        return Err(NoPattern::Long);
+    }
     match SharedBank::new(alloc, MOST_CELLS) {
         Ok(bank) => read_pattern_over(alloc, text, bank),
         Err(_) => Err(NoPattern::Memory),
     }
 }
 
-/// The same over a bank that is let go.
+/// Reads a pattern over this store, and frees the store.
 fn read_pattern_over(alloc: Global, text: &[u8], mut bank: SharedBank) -> Result<Pattern, NoPattern>
     ensures pattern { IfOk result (SpellsPattern text.now) }
     ensures none { IfErr result (IsNoPattern text.now) }
@@ -47,7 +53,7 @@ fn read_pattern_over(alloc: Global, text: &[u8], mut bank: SharedBank) -> Result
     read_pattern_in(alloc, text, &mut bank)
 }
 
-/// The same over a bank.
+/// Reads a pattern over this store.
 fn read_pattern_in(alloc: Global, text: &[u8], bank: &mut SharedBank) -> Result<Pattern, NoPattern>
     ensures pattern { IfOk result (SpellsPattern text.now) }
     ensures none { IfErr result (IsNoPattern text.now) }
@@ -61,7 +67,7 @@ fn read_pattern_in(alloc: Global, text: &[u8], bank: &mut SharedBank) -> Result<
     }
 }
 
-/// The pattern that a term is.
+/// Returns the pattern that has the tree of a term.
 fn pattern_of(alloc: Global, bank: &SharedBank, t: Term) -> Result<Pattern, NoPattern>
     requires { IsSome (tree_at (store_of bank.now) t) }
     ensures pattern { IfOk result

@@ -1,40 +1,46 @@
-//! What a handle holds.
+//! The state of an open handle.
 
 ghost use Rattle.std.specs.Prelude.{◌≡◌, ◌<◌, ◌≤◌, [], IfOk, IfErr, None};
 ghost use Rattle.rx_term.specs.Store.{cells};
-ghost use Rattle.rx_shared.specs.State.{IsEmptyStore};
+ghost use Rattle.rx_shared.specs.State.{IsEmptyStore, store_of as terms_of};
+ghost use Rattle.psilt_work.specs.Names.{names_of};
 ghost use Rattle.psilt_work.specs.Banks.{store_of};
 ghost use Rattle.psilt_work.specs.Answers.{MakesRoom};
 ghost use Rattle.psilt_work.specs.Works.{IsFresh, IsSameButBank, IsOpeningFault};
 
 use crate::patterns::Patterns;
+use crate::stopping::Flag;
 use crate::{Bank, Fault};
 use rx_shared::SharedBank;
 use rx_term::{BankFault, Term, TermBank};
 use std::alloc::Global;
 
-/// The most cells that a bank may have.
+/// The largest cell limit of a term store.
 pub const MOST_CELLS: u32 = 1_073_741_824;
 
-/// A bank, the patterns, the text that was printed last, and why and where a text was refused last.
+/// The state of an open handle: the term store, the patterns, the last printed text, and the
+/// location and rule of the last rejected text.
 #[derive(Drop)]
 pub struct Work {
-    /// The bank, what is specified, and the symbols that C knows.
+    /// The term store, the specification, and the symbols that C has numbers for.
     pub bank: Bank,
     /// The patterns.
     pub patterns: Patterns,
-    /// The bindings of the last match, until terms are given up.
+    /// The bindings of the last match, until terms are freed.
     pub bound: Vec<Term>,
     /// The text that was printed last.
     pub text: Vec<u8>,
-    /// Where the text that was refused last leaves its grammar or breaks a rule, in bytes from 0.
+    /// The offset in bytes at which the text that was rejected last leaves its grammar or violates
+    /// a rule.
     pub place: u32,
-    /// The rule that the text or the term breaks that was refused last, by its number from 1; 0
-    /// where the text leaves its grammar.
+    /// The number, from 1, of the rule that the text or term violates that was rejected last; 0 if
+    /// the text leaves its grammar.
     pub rule: u32,
+    /// Whether evaluations are to end.
+    pub(crate) flag: Flag,
 }
 
-/// A value in a box.
+/// Moves a value to a box.
 fn box_of<T: Drop>(alloc: Global, value: T) -> Result<Box<T>, Fault>
     ensures value { IfOk result (λ b. b.value ≡ value) }
     ensures memory { IfErr result (λ fault. fault ≡ Fault.Memory) }
@@ -46,7 +52,7 @@ fn box_of<T: Drop>(alloc: Global, value: T) -> Result<Box<T>, Fault>
 }
 
 impl Work {
-    /// Over an empty bank of at most `cap` cells. `Range` where `cap` is 0 or more than
+    /// Makes a work over an empty store of at most `cap` cells. `Range` if `cap` is 0 or more than
     /// `MOST_CELLS`.
     pub fn new(alloc: Global, cap: u32) -> Result<Box<Work>, Fault>
         ensures empty { IfOk result (λ b. IsEmptyStore (store_of b.value.bank) cap) }
@@ -62,8 +68,9 @@ impl Work {
         }
     }
 
-    /// Over a bank.
+    /// Makes a work over a store without symbols.
     fn over(alloc: Global, bank: SharedBank) -> Work
+        requires { names_of (terms_of bank) ≡ 0 }
         ensures bank { result.bank.shared ≡ bank }
         ensures fresh { IsFresh result }
     {
@@ -74,24 +81,25 @@ impl Work {
             text: Vec::new(alloc),
             place: 0,
             rule: 0,
+            flag: Flag::none(),
         }
     }
 
-    /// How many cells are taken.
+    /// Returns the number of cells in use.
     pub fn cells(&self) -> u32
         ensures { result ≡ cells (store_of self.now.bank) }
     {
         self.bank.shared_bank().cells()
     }
 
-    /// How many cells can be taken with no more memory.
+    /// Returns how many cells can be taken without another allocation.
     pub fn spare(&self) -> u32
         ensures { result ≡ (store_of self.now.bank).spare }
     {
         self.bank.shared_bank().spare()
     }
 
-    /// Makes room for `k` cells more.
+    /// Reserves memory for `k` more cells.
     pub fn reserve(&mut self, k: u32) -> Result<(), Fault>
         ensures answer { MakesRoom (store_of self.old.bank) (store_of self.new.bank) k result }
         ensures beside { IsSameButBank self.old self.new }

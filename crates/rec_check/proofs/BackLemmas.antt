@@ -20,10 +20,10 @@ use Rattle.rec_check.specs.Inner.Trials.{asked}
 
 abbrev mutual
   -- a left side asked of a tree, the last argument first
-  walk : Spec → Term → Tree → Substitution → Option Substitution
+  pub walk : Spec → Term → Tree → Substitution → Option Substitution
   walk y (Apply w ts) u s = elim (is_variable y w.bytes) [ true ↦ bound s w.bytes u | false ↦ goes_on (opened w.bytes (count ts) u) (λ us. walk_all y ts us s) ]
 
-  walk_all : Spec → Terms → Trees → Substitution → Option Substitution
+  pub walk_all : Spec → Terms → Trees → Substitution → Option Substitution
   walk_all y Terms.none none s = Some s
   walk_all y Terms.none (more u us) s = None
   walk_all y (Terms.more t ts) none s = None
@@ -72,7 +72,7 @@ mutual
       subst (λ o. Comes (goes_on o (λ r. walk y t (instance g t) r)) g) (sym all.1) first
 
 -- the walk comes to something where `binds` does
-walk_binds : (y : Spec) (l : Term) (u : Tree) → is_some (walk y l u []) ≡ is_some (binds y l u)
+pub walk_binds : (y : Spec) (l : Term) (u : Tree) → is_some (walk y l u []) ≡ is_some (binds y l u)
 walk_binds y l u = by (walk y l u []) (binds y l u) refl refl
   where
     nothing : BindsOnly y []
@@ -90,13 +90,13 @@ walk_binds y l u = by (walk y l u []) (binds y l u) refl refl
     by None (Some b) e f = let c = found b f in absurd (cc (sym c.1 ∙ e))
     by None None e f = refl
 
-abbrev IsBare : Spec → Named → Type 0
+abbrev pub IsBare : Spec → Named → Type 0
 IsBare y m = is_variable y m.name ≡ true → m.arguments ≡ 0
 
-abbrev named_at : Word → Terms → Named
+abbrev pub named_at : Word → Terms → Named
 named_at w ts = record { name = w.bytes; arguments = count ts }
 
-no_count : (ts : Terms) → count ts ≡ 0 → ts ≡ Terms.none
+pub no_count : (ts : Terms) → count ts ≡ 0 → ts ≡ Terms.none
 no_count Terms.none e = refl
 no_count (Terms.more t ts) e = absurd (cc e)
 

@@ -1,6 +1,8 @@
 pub mod BackLemmas
 pub mod ListLemmas
+pub mod ClassLemmas
 pub mod CountLemmas
+pub mod ErrorLemmas
 mod FindingRows
 pub mod FirstLemmas
 pub mod LineLemmas
@@ -9,6 +11,7 @@ pub mod NodeLemmas
 pub mod OrderLemmas
 pub mod RewritingLemmas
 pub mod RunLemmas
+pub mod SilencedLemmas
 pub mod SizeLemmas
 pub mod SpotLemmas
 pub mod TrialLemmas

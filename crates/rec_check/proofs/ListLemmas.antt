@@ -1,8 +1,10 @@
 -- Lists that grow in a loop by what each item gives.
-use Rattle.std.proofs.Common.{sym, ap, ◌∙◌, append_assoc}
+use Rattle.std.proofs.Common.{sym, ap, subst, arith, inl, inr, ◌∙◌, append_assoc}
+use Rattle.std.proofs.lemmas.Bool.{cases_eq}
 use Rattle.std.proofs.lemmas.List.{append-nil, take_all}
 use Rattle.std.proofs.lemmas.List.Concat.{flat_map-append}
-use Rattle.std.specs.Prelude.{ℕ, ◌≡◌, ◌+◌, ◌<◌, ◌≤◌, List, [], ◌∷◌, ◌++◌, length, map, flat_map, take, get_or}
+use Rattle.std.specs.Prelude.{ℕ, ◌≡◌, ◌≢◌, ◌⊎◌, ◌+◌, ◌<◌, ◌≤◌, List, [], ◌∷◌, ◌++◌, length, map, flat_map, take, get_or}
+use Rattle.rec_match.proofs.ItemLemmas.{get-front, get-last}
 use Rattle.rec_sorts.proofs.StackLemmas.{map-append}
 use Rattle.rec_sorts.proofs.TurnLemmas.{map-take_turn}
 
@@ -42,3 +44,14 @@ grown_by_all v f g xs i old new past before = before ∙ ap (λ ys. map v old ++
 -- grown twice
 pub grown_twice : {B : Type 0} (old now new xs ys : List B) → now ≡ old ++ xs → new ≡ now ++ ys → new ≡ old ++ (xs ++ ys)
 grown_twice old now new xs ys e f = f ∙ ap (λ zs. zs ++ ys) e ∙ append_assoc old xs ys
+
+-- what holds for each number and its place, for one number more
+pub each_more : (P : ℕ → ℕ → Type 0) (ks new : List ℕ) (n k : ℕ) → length ks ≡ n → ((i : ℕ) → i < n → P i (get_or ks i 0)) → new ≡ ks ++ k ∷ [] → P n k
+    → (i : ℕ) → i < n + 1 → P i (get_or new i 0)
+each_more P ks new n k long each e own i lt = by (cases_eq i n)
+  where
+    by : (i ≡ n) ⊎ (i ≢ n) → P i (get_or new i 0)
+    by (inl q) = subst (λ j. P j (get_or new j 0)) (sym q) (subst (P n) (sym (ap (λ xs. get_or xs n 0) e ∙ get-last ks k n 0 (sym long))) own)
+    by (inr d) =
+        let below : i < n = omega (arith, lt, d) in
+        subst (P i) (sym (ap (λ xs. get_or xs i 0) e ∙ get-front ks k i 0 (omega (arith, below, long)))) (each i below)

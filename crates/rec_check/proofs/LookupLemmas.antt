@@ -13,7 +13,7 @@ use Rattle.rec_sorts.proofs.TableLemmas.{same_function}
 use Rattle.std.proofs.lemmas.List.{append-nil, length-map, length-take, take_all, take_more}
 use Rattle.rec_sorts.proofs.TurnLemmas.{drop-turn}
 use Rattle.rec_check.specs.Named.{as_word, as_words}
-use Rattle.rec_check.specs.declared.words.Word as named
+use Rattle.rec_check.specs.declared.located.Word as named
 use Rattle.rec_check.specs.Lookups.{IsNoted, IsScope, Knows, number_in, present, sort_named, all_sorts, where_known}
 use Rattle.rec_check.specs.declared.names.Names.{Names}
 use Rattle.rec_check.specs.declared.scope.Scope.{Scope}

@@ -22,7 +22,7 @@ use Rattle.rec_match.specs.Inner.Chains.{IsNext}
 use Rattle.rec_match.proofs.BoundLemmas.{opened_is}
 use Rattle.rec_match.proofs.FactLemmas.{facts, variable_is_one}
 use Rattle.rec_match.proofs.LetterLemmas.{every-at}
-use Rattle.rec_check.specs.Findings.{Found, HasSame, found_by, never_matching, never_matching_in, never_tried}
+use Rattle.rec_check.specs.Findings.{Found, HasSame, found_by, found_on, never_matching, never_matching_in, never_tried}
 use Rattle.rec_check.specs.Inner.Inside.{never_matching_inside}
 use Rattle.rec_check.specs.Rewriting.{IsFirstWord, postorder, postorder_all, rewrites, rewritten_by}
 use Rattle.rec_check.specs.Inner.Trials.{asked}
@@ -31,21 +31,20 @@ use Rattle.rec_check.specs.declared.finding.Kind.TheVariants.{NeverMatches, Neve
 use Rattle.rec_check.proofs.BackLemmas.{asked_binds}
 use Rattle.rec_check.proofs.CountLemmas.{same-append, same-of, same-trans, same-swap}
 use Rattle.rec_check.proofs.TrialLemmas.{All-last, AreMeant, left_bare, some_last, some_names, tree_name}
-use Rattle.rec_check.specs.Findings.{as_found, as_findings}
+use Rattle.rec_check.specs.Findings.{as_diagnostic, as_diagnostics}
 use Rattle.rec_check.specs.Inner.Rewriters.{IsRewriter}
 use Rattle.rec_check.specs.declared.rewriting.Rewriter.{Rewriter}
 use Rattle.rec_syntax.specs.Parts.{rule_of, term_of}
 use Rattle.rec_syntax.specs.declared.parts.Rule as parts
-use Rattle.std.proofs.Common.{Err, Ok, Result}
+use Rattle.std.proofs.Common.{Err, Global, Ok, Result, Vec}
 use Rattle.std.specs.Prelude.{IfOk}
 use Rattle.std.proofs.lemmas.List.{get_or_default}
 use Rattle.rec_check.specs.Named.{as_node, as_nodes, as_word, as_words, node_words}
-use Rattle.rec_check.specs.declared.words.Counted.{Counted}
+use Rattle.rec_check.specs.declared.located.Counted.{Counted}
 use Rattle.std.proofs.lemmas.List.{take-map}
 use Rattle.rec_check.specs.Spots.{spot_of, spot_shown}
-use Rattle.rec_check.specs.declared.finding.Finding.{Finding}
-use Rattle.rec_check.specs.declared.finding.Shown.TheVariants.{Place}
-use Rattle.rec_check.specs.declared.words.Word as seen
+use Rattle.rec_check.specs.declared.finding.Diagnostic.{Diagnostic}
+use Rattle.rec_check.specs.declared.located.Word as seen
 use Rattle.rec_sorts.proofs.KeptLemmas.{left_sides_apply}
 use Rattle.rec_check.specs.declared.spots.Spot.{Spot}
 use Rattle.rec_match.proofs.LetterLemmas.{pair-long}
@@ -531,16 +530,18 @@ module _ (y : Spec) (kept : fault y ≡ None) (r : Rule) (there : Contains y.rul
 
 -- a finding is pushed where a rule was found
 pub pushed_found : (text : List ℕ) (y : Spec) (k : Kind) (w : seen.Word) (rule : Option ℕ) (i : ℕ) (spots : List Spot) (spot : Spot) (o : Option Word)
-    (old new : List Finding) → rule ≡ Some i → i < length y.rules
+    (end : ℕ) (shown : Vec ℕ Global) (old new : List Diagnostic) → rule ≡ Some i → i < length y.rules
     → spots ≡ map (λ q. spot_of text (head q.left).at) y.rules → spot ≡ get_or spots i spot → IsFirstWord y rule o
-    → new ≡ old ++ record { at = w.at; shown = Place spot; kind = k } ∷ [] → as_findings new ≡ as_findings old ++ found_by k text (as_word w) o
-pushed_found text y k w rule i spots spot o old new is lt all at first pushed =
+    → end ≡ w.at + length w.bytes.now → shown.items ≡ spot_shown spot
+    → new ≡ old ++ record { at = w.at; end = end; kind = k; shown = shown } ∷ [] → as_diagnostics new ≡ as_diagnostics old ++ found_by k text (as_word w) o
+pushed_found text y k w rule i spots spot o end shown old new is lt all at first ends shows pushed =
     let f : IsFirstWord y (Some i) o = subst (λ x. IsFirstWord y x o) is first in
     let seen : spot ≡ spot_of text (head f.0.left).at = at ∙ spot_at (λ q. spot_of text (head q.left).at) y.rules spots i spot f.0 all lt f.1 in
-    ap as_findings pushed
-    ∙ map-append as_found old (record { at = w.at; shown = Place spot; kind = k } ∷ [])
-    ∙ ap (λ p. as_findings old ++ (let x : Found = record { at = w.at; shown = spot_shown p; kind = k } in x) ∷ []) seen
-    ∙ ap (λ v. as_findings old ++ found_by k text (as_word w) v) (sym f.2)
+    ap as_diagnostics pushed
+    ∙ map-append as_diagnostic old (record { at = w.at; end = end; kind = k; shown = shown } ∷ [])
+    ∙ ap (λ (n : ℕ). as_diagnostics old ++ (let x : Found = record { at = w.at; end = n; shown = shown.items; kind = k } in x) ∷ []) ends
+    ∙ ap (λ bytes. as_diagnostics old ++ found_on k (as_word w) bytes ∷ []) (shows ∙ ap spot_shown seen)
+    ∙ ap (λ v. as_diagnostics old ++ found_by k text (as_word w) v) (sym f.2)
 
 -- ---- chains
 

@@ -1,8 +1,11 @@
 -- What a run of a check leaves.
 use Rattle.std.proofs.Common.{Vec, Global, Result, Ok, Err, ◌≡◌, ℕ, List, [], Option, Some, None, refl, sym, ap, subst, ◌∙◌, arith, inl, inr}
 use Rattle.std.proofs.lemmas.Bool.{cases_lt}
-use Rattle.std.proofs.lemmas.List.{append-nil, length-take, take_all}
-use Rattle.std.specs.Prelude.{◌<◌, ◌≤◌, ◌⊎◌, ◌∷◌, ◌++◌, length, take, IfErr, IfOk, IfSome}
+use Rattle.std.proofs.lemmas.List.{append-nil, length-take, take_all, take_more}
+use Rattle.std.proofs.lemmas.List.Concat.{flat_map-append}
+use Rattle.std.proofs.lemmas.List.Kept.{IsNonDecreasingBy-filter}
+use Rattle.std.specs.Prelude.{◌+◌, ◌<◌, ◌≤◌, ◌⊎◌, ◌∷◌, ◌++◌, flat_map, get_or, length, not, take, IfErr, IfOk, IfSome, OnOk}
+use Rattle.std.specs.List.Sorted.{IsNonDecreasingBy}
 use Rattle.std.specs.Io.KnownBytes.{Appends, Keeps}
 use Rattle.rx_text.specs.Written.{AppendsFront}
 use Rattle.rx_text.proofs.AppendingLemmas.{appends_both, appends_none}
@@ -10,22 +13,24 @@ use Rattle.rec_syntax.specs.Tokens.{Word}
 use Rattle.rec_syntax.specs.Syntax.{Spec}
 use Rattle.rec_syntax.specs.Grammar.{SpecText}
 use Rattle.rec_syntax.specs.Place.{IsFaultPlace}
-use Rattle.rec_sorts.specs.Laws.{Every}
-use Rattle.rec_sorts.specs.Lookup.{places}
-use Rattle.rec_sorts.specs.SpecRules.{Verdict, Long, Grammar, Breaks, Good, SpecVerdict, Fits, Fault, Broken, fault, first_broken, all_rules, least}
+use Rattle.rec_sorts.specs.SpecRules.{Verdict, Long, Grammar, Breaks, Good, SpecVerdict, Fits, Fault, fault}
+use Rattle.rx_run.specs.Run.{StopsReading}
 use Rattle.rx_run.specs.declared.ending.RunFault.{RunFault}
-use Rattle.rx_run.specs.declared.ending.RunFault.TheVariants.{Memory, Room, Read, Write}
-use Rattle.rec_check.specs.Findings.{as_findings, AreFound, AreInOrder, AreUncovered, Found, HasSame}
-use Rattle.rec_check.specs.Findings.{broken_words, found_alone, found_at, judgement_of, number_of, warnings}
+use Rattle.rx_run.specs.declared.ending.RunFault.TheVariants.{Memory, Room, Deep, Read, Write}
+use Rattle.rec_check.specs.Errors.{AreErrors, errors, errors_of, rank}
+use Rattle.rec_check.specs.Findings.{as_diagnostics, AreInOrder, AreUncovered, Found, HasSame}
+use Rattle.rec_check.specs.Findings.{found_alone, found_at, found_on, judgement_of, warnings}
 use Rattle.rec_check.specs.Lines.{lines_of}
-use Rattle.rec_check.specs.Runs.{Examined, Stops, Tells, TellsFront}
-use Rattle.rec_check.specs.declared.finding.Finding.{Finding}
+use Rattle.rec_check.specs.Silenced.{is_silenced, unsilenced}
+use Rattle.rec_check.specs.Runs.{AreFound, Examined, Stops, Tells, TellsFront}
+use Rattle.rec_check.specs.declared.finding.Diagnostic.{Diagnostic}
 use Rattle.rec_check.specs.declared.finding.Kind.{Kind}
 use Rattle.rec_check.specs.declared.finding.Kind.TheVariants as kind
 use Rattle.rec_check.specs.declared.finding.Rule.{Rule}
+use Rattle.rec_check.specs.declared.runs.Examination.{Examination}
 use Rattle.rec_check.specs.declared.runs.Judgement.{Judgement}
 use Rattle.rec_check.specs.declared.runs.Judgement.TheVariants as judged
-use Rattle.rec_check.proofs.CountLemmas.{same-append, same-map, same-of, same-trans}
+use Rattle.rec_check.proofs.CountLemmas.{same-append, same-filter, same-map, same-of, same-trans}
 
 pub appends_kept : (old mid new : Option (List ℕ)) (xs : List ℕ) → Appends old mid xs → Keeps mid new → Appends old new xs
 appends_kept old mid new xs a k = subst (Appends old new) (append-nil xs) (appends_both old mid new xs [] a (appends_none mid new k))
@@ -33,75 +38,60 @@ appends_kept old mid new xs a k = subst (Appends old new) (append-nil xs) (appen
 pub front_all : (old new : Option (List ℕ)) (xs : List ℕ) → Appends old new xs → AppendsFront xs old new
 front_all old new xs a = (xs, a, ([], sym (append-nil xs)))
 
--- the same words give the same findings
-pub same_findings : (k : Kind) (ws us : List Word) (fs : List Found) → HasSame ws us → AreInOrder (found_at k us) fs → AreInOrder (found_at k ws) fs
-same_findings k ws us fs h o = record {
-  same = same-trans (found_at k ws) (found_at k us) fs (same-map (λ w. record { at = w.at; shown = w.bytes; kind = k }) ws us h) o.same;
-  ordered = o.ordered;
-}
-
-pub broken_examined : (text : List ℕ) (y : Spec) (f : Fault) (r : Rule) (fs : List Found) → Fits text → SpecText text y → fault y ≡ Some f
-    → number_of r ≡ f.number
-    → AreInOrder (found_at (kind.Broken r) (broken_words y r)) fs → Examined text fs judged.Refused
-broken_examined text y f r fs fits spelled broken number o = record {
+pub broken_examined : (text : List ℕ) (y : Spec) (f : Fault) (fs : List Found) → Fits text → SpecText text y → fault y ≡ Some f
+    → AreErrors y f fs → Examined text fs judged.Refused
+broken_examined text y f fs fits spelled broken o = record {
   verdict = Breaks f;
   is = (fits, (y, spelled, broken));
-  are = (y, r, spelled, broken, number, o);
+  are = (y, spelled, broken, o);
   ends = refl;
 }
 
+-- the errors in another order
+pub if_ok_errors : {E : Type 0} (r : Result (Vec Diagnostic Global) E) (y : Spec) (f : Fault) (found : List Found) → HasSame (errors y) found
+    → IfOk r (λ v. HasSame found (as_diagnostics v.items)) → IfOk r (λ v. IsNonDecreasingBy (rank f) (as_diagnostics v.items))
+    → IfOk r (λ v. AreErrors y f (as_diagnostics v.items))
+if_ok_errors (Ok v) y f found h k o = record { same = same-trans (errors y) found (as_diagnostics v.items) h k; ordered = o }
+if_ok_errors (Err e) y f found h k o = tt
+
+-- one rule more
+pub errors_turn : (y : Spec) (rs : List Rule) (i : ℕ) (d : Rule) (old new : List Found) → i < length rs
+    → HasSame (flat_map (errors_of y) (take i rs)) old → HasSame (old ++ errors_of y (get_or rs i d)) new
+    → HasSame (flat_map (errors_of y) (take (i + 1) rs)) new
+errors_turn y rs i d old new h before more =
+    let r : Rule = get_or rs i d in
+    let all : List Found = flat_map (errors_of y) (take i rs) in
+    same-trans (flat_map (errors_of y) (take (i + 1) rs)) (all ++ errors_of y r) new
+    (same-of (flat_map (errors_of y) (take (i + 1) rs)) (all ++ errors_of y r)
+    (ap (flat_map (errors_of y)) (take_more rs i d h) ∙ flat_map-append (errors_of y) (take i rs) (r ∷ [])
+    ∙ ap (λ fs. all ++ fs) (append-nil (errors_of y r))))
+    (same-trans (all ++ errors_of y r) (old ++ errors_of y r) new
+    (same-append all (errors_of y r) old (errors_of y r) before (same-of (errors_of y r) (errors_of y r) refl)) more)
+
+-- the errors by one rule, in another order
+pub on_ok_errors : {E : Type 0} (r : Result (Unit {0}) E) (k : Kind) (ws us : List Word) (old new : List Found) → HasSame ws us
+    → OnOk r (new ≡ old ++ found_at k us) → OnOk r (HasSame (old ++ found_at k ws) new)
+on_ok_errors (Ok u) k ws us old new h e = same-trans (old ++ found_at k ws) (old ++ found_at k us) new
+    (same-append old (found_at k ws) old (found_at k us) (same-of old old refl)
+    (same-map (λ w. found_on k w w.bytes) ws us h))
+    (same-of (old ++ found_at k us) new (sym e))
+on_ok_errors (Err f) k ws us old new h e = tt
+
+-- the findings that are not silenced, in order
+unsilenced_in_order : (text : List ℕ) (all fs : List Found) → AreInOrder all fs → AreInOrder (unsilenced text all) (unsilenced text fs)
+unsilenced_in_order text all fs o = record {
+  same = same-filter (λ f. not (is_silenced text f)) all fs o.same;
+  ordered = IsNonDecreasingBy-filter (λ f. f.at) (λ f. not (is_silenced text f)) fs o.ordered;
+}
+
 pub good_examined : (text : List ℕ) (y : Spec) (us fs : List Found) (end : Judgement) → Fits text → SpecText text y → fault y ≡ None
-    → AreUncovered y us → AreInOrder (warnings text y ++ us) fs → end ≡ judgement_of (Good y) fs → Examined text fs end
-good_examined text y us fs end fits spelled good shown o e = record { verdict = Good y; is = (fits, spelled, good); are = (us, shown, o); ends = e }
-
--- the rule that is broken has a number from 1 to 11
-abbrev IsRuleNumber : ℕ → Type 0
-IsRuleNumber n = (1 ≤ n) × (n ≤ 11)
-
-number_in_first : (bs : List Broken) (f : Fault) → Every (λ b. IsRuleNumber b.number) bs → first_broken bs ≡ Some f → IsRuleNumber f.number
-number_in_first [] f h e = absurd (cc e)
-number_in_first (b ∷ bs) f h e = by_places (places b.words) e (number_in_first bs f h.1)
-  where
-    by_places : (ps : List ℕ) → (elim ps as (λ _. Option Fault) [
-      | [] ↦ first_broken bs
-      | q ∷ qs ↦ Some (record { number = b.number; at = least q qs })
-    ]) ≡ Some f
-        → (first_broken bs ≡ Some f → IsRuleNumber f.number) → IsRuleNumber f.number
-    by_places [] e k = k e
-    by_places (q ∷ qs) e k = subst IsRuleNumber (ap (λ (o : Option Fault). elim o as (λ _. ℕ) [ Some g ↦ g.number | None ↦ 1 ]) e) h.0
-
-all_numbered : (y : Spec) → Every (λ b. IsRuleNumber b.number) (all_rules y)
-all_numbered y = (
-  one 1 (omega arith) (omega arith),
-  (
-    one 2 (omega arith) (omega arith),
-    (
-      one 3 (omega arith) (omega arith),
-      (
-        one 4 (omega arith) (omega arith),
-        (
-          one 5 (omega arith) (omega arith),
-          (
-            one 6 (omega arith) (omega arith),
-            (
-              one 7 (omega arith) (omega arith),
-              (
-                one 8 (omega arith) (omega arith),
-                (one 9 (omega arith) (omega arith), (one 10 (omega arith) (omega arith), (one 11 (omega arith) (omega arith), tt))),
-              ),
-            ),
-          ),
-        ),
-      ),
-    ),
-  ),
-)
-  where
-    one : (n : ℕ) → 1 ≤ n → n ≤ 11 → IsRuleNumber n
-    one n a b = (a, b)
-
-pub fault_numbered : (y : Spec) (f : Fault) → fault y ≡ Some f → IsRuleNumber f.number
-fault_numbered y f e = number_in_first (all_rules y) f (all_numbered y) e
+    → AreUncovered y us → AreInOrder (warnings text y ++ us) fs → end ≡ judgement_of (Good y) (unsilenced text fs) → Examined text (unsilenced text fs) end
+good_examined text y us fs end fits spelled good shown o e = record {
+  verdict = Good y;
+  is = (fits, spelled, good);
+  are = (us, shown, unsilenced_in_order text (warnings text y ++ us) fs o);
+  ends = e;
+}
 
 -- ---- a text, and what was read of it
 
@@ -149,20 +139,33 @@ module _ (name bytes text : List ℕ) (read : text ≡ take 16777217 bytes) wher
   pub stops_all : (fault : RunFault) (old new : Option (List ℕ)) → Stops name text fault old new → Stops name bytes fault old new
   stops_all (Memory lines) old new h = h
   stops_all (Room lines) old new h = h
+  stops_all (Deep lines) old new h = h
   stops_all Read old new h = h
   stops_all Write old new h = tells_front_all old new h
 
-pub if_ok_found : {E : Type 0} (r : Result (Vec Finding Global) E) (k : Kind) (ws us : List Word) (found : List Found) → found ≡ found_at k us → HasSame ws us
-    → IfOk r (λ v. AreInOrder found (as_findings v.items)) → IfOk r (λ v. AreInOrder (found_at k ws) (as_findings v.items))
-if_ok_found (Ok v) k ws us found e h o = same_findings k ws us (as_findings v.items) h (subst (λ fs. AreInOrder fs (as_findings v.items)) e o)
-if_ok_found (Err f) k ws us found e h o = tt
+-- a text was not read
+keeps_same : (old : Option (List ℕ)) → Keeps old old
+keeps_same None = tt
+keeps_same (Some xs) = refl
+
+stops_unread_of : (name text : List ℕ) (f : RunFault) (old : Option (List ℕ)) → StopsReading f → Stops name text f old old
+stops_unread_of name text (Memory lines) old h = (h, keeps_same old)
+stops_unread_of name text (Room lines) old h = absurd h
+stops_unread_of name text (Deep lines) old h = absurd h
+stops_unread_of name text Read old h = keeps_same old
+stops_unread_of name text Write old h = absurd h
+
+pub stops_unread : (name : List ℕ) (known : Option (List ℕ)) (f : RunFault) (old : Option (List ℕ)) → StopsReading f
+    → IfSome known (λ text. Stops name text f old old)
+stops_unread name None f old h = tt
+stops_unread name (Some text) f old h = stops_unread_of name text f old h
 
 -- what is found in one order and in another
-pub if_ok_warned : {E : Type 0} (r : Result (Vec Finding Global) E) (tried matching inside others examples found : List Found)
+pub if_ok_warned : {E : Type 0} (r : Result (Vec Diagnostic Global) E) (tried matching inside others examples found : List Found)
     → found ≡ tried ++ inside ++ others ++ examples → HasSame matching inside
-    → IfOk r (λ v. AreInOrder found (as_findings v.items)) → IfOk r (λ v. AreInOrder ((tried ++ matching ++ others) ++ examples) (as_findings v.items))
+    → IfOk r (λ v. AreInOrder found (as_diagnostics v.items)) → IfOk r (λ v. AreInOrder ((tried ++ matching ++ others) ++ examples) (as_diagnostics v.items))
 if_ok_warned (Ok v) tried matching inside others examples found e h o = record {
-  same = same-trans ((tried ++ matching ++ others) ++ examples) found (as_findings v.items)
+  same = same-trans ((tried ++ matching ++ others) ++ examples) found (as_diagnostics v.items)
       (same-trans ((tried ++ matching ++ others) ++ examples) ((tried ++ inside ++ others) ++ examples) found
       (same-append (tried ++ matching ++ others) examples (tried ++ inside ++ others) examples
       (same-append (tried ++ matching) others (tried ++ inside) others (same-append tried matching tried inside (same-of tried tried refl) h)
@@ -187,16 +190,20 @@ run_stops name read text e known old new (Ok end) h k = tt
 run_stops name read text e None old new (Err f) h k = tt
 run_stops name read text e (Some bytes) old new (Err f) h k = stops_all name bytes text (e ∙ h) f old new k
 
-pub no_number : (n : ℕ) → (1 ≤ n) × (n ≤ 11) → (n ≡ 0) ⊎ (11 < n) → ⊥
-no_number n h (inl e) = omega (arith, h.0, e)
-no_number n h (inr e) = omega (arith, h.1, e)
-
 pub fits_unless : (text : List ℕ) → (16777216 < length text → ⊥) → Fits text
 fits_unless text h = by_length (cases_lt 16777216 (length text))
   where
     by_length : (16777216 < length text) ⊎ (length text ≤ 16777216) → Fits text
     by_length (inl long) = absurd (h long)
     by_length (inr short) = short
+
+-- an examination with one finding
+pub alone_examined : {E : Type 0} (r : Result Examination E) (text : List ℕ) (fs : List Found) → IfOk r (λ e. as_diagnostics e.diagnostics.items ≡ fs)
+    → IfOk r (λ e. e.judgement ≡ judged.Refused) → Examined text fs judged.Refused
+    → IfOk r (λ e. Examined text (as_diagnostics e.diagnostics.items) e.judgement)
+alone_examined (Ok e) text fs found refused h =
+    subst (λ gs. Examined text gs e.judgement) (sym found) (subst (λ j. Examined text fs j) (sym refused) h)
+alone_examined (Err f) text fs found refused h = tt
 
 pub outside_examined : (text : List ℕ) (at : ℕ) → Fits text → IsFaultPlace text at → Examined text (found_alone kind.Outside at) judged.Refused
 outside_examined text at fits place = record { verdict = Grammar at; is = (fits, place); are = refl; ends = refl }

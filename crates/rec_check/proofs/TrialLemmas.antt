@@ -75,7 +75,7 @@ abbrev pub tree_name : Tree → List ℕ
 tree_name (Appl n q ts anns) = n
 tree_name t = []
 
-abbrev tree_arguments : Tree → Trees
+abbrev pub tree_arguments : Tree → Trees
 tree_arguments (Appl n q ts anns) = ts
 tree_arguments t = tree.none
 

@@ -3,7 +3,7 @@ use Rattle.std.proofs.Common.{refl, sym, ap, subst, arith, ◌∙◌, append_ass
 use Rattle.std.proofs.lemmas.Bool.{cases_lt}
 use Rattle.std.proofs.lemmas.List.{append-nil, length-map, length-take, map-append, take_all, take_more}
 use Rattle.std.proofs.lemmas.List.Elements.{All-nil, All-append, All-push, All-take}
-use Rattle.std.specs.Prelude.{ℕ, zero, suc, ◌≡◌, ◌≤◌, ◌<◌, ◌+◌, ◌-◌, ◌⊎◌, Bool, true, false, not, All, Contains, List, []}
+use Rattle.std.specs.Prelude.{ℕ, zero, suc, ◌≡◌, ◌≤◌, ◌<◌, ◌+◌, ◌-◌, ◌⊎◌, ◌&&◌, ◌||◌, Bool, true, false, not, All, Contains, List, []}
 use Rattle.std.specs.Prelude.{◌∷◌, ◌++◌, Option, Some, None, bytes_eq, get_or, is_some, length, map, slice_get, take}
 use Rattle.rx_term.specs.Name.{plain_name}
 use Rattle.rx_text.specs.Canon.{canon, canon_all, canon_others, name_text, no_arguments}
@@ -22,8 +22,8 @@ use Rattle.rec_sorts.specs.declared.letters.Meaning.TheVariants.{Symbol}
 use Rattle.rec_match.specs.Inner.Built.{AreHeads}
 use Rattle.rec_match.specs.Inner.Chains.{IsNext}
 use Rattle.rec_match.proofs.FactLemmas.{facts}
-use Rattle.rec_check.specs.Findings.{Found, MayShow, ShowCalls, ShowsCall, as_example}
-use Rattle.rec_check.specs.declared.finding.Example.{Example}
+use Rattle.rec_check.specs.Findings.{Found, found_on, MayShow, ShowCalls, ShowsCall, as_diagnostic}
+use Rattle.rec_check.specs.declared.finding.Diagnostic.{Diagnostic}
 use Rattle.rec_check.specs.declared.finding.Kind.TheVariants.{NotCovered}
 use Rattle.rec_check.specs.Inner.Grounds.{AreJoined, IsCallOf, IsExampleOf, IsGroundOf, IsShown, opened_text, sorts_had}
 use Rattle.rec_check.specs.Uncovered.{AreGround, IsGround, IsUnmatched, begins_rule, sorts_due}
@@ -335,8 +335,8 @@ call_is y k n d sorts ls all name titled text whole at due is counted title h so
 pub call_shown : (s r : Sourced) (k : ℕ) (d : Declaration) (g : Ground) (ls : List Letter) → r ≡ s → slice_get (symbols s.spec) k ≡ Some d
     → begins_rule s.spec d.name.bytes ≡ true → ls ≡ g.letters.items
     → ((t : Term) → AreLetters r.spec ls t → (head t).bytes ≡ name_of r.spec (Symbol k) → IsUnmatched r.spec t) → IsCallOf s.spec d g
-    → ShowsCall s.spec d (record { at = g.at; shown = g.text.items; kind = NotCovered })
-call_shown s r k d g ls same at ruled letters unmatched h = (
+    → length g.text.items ≤ 200 → ShowsCall s.spec d (record { at = g.at; end = g.end; shown = g.text.items; kind = NotCovered })
+call_shown s r k d g ls same at ruled letters unmatched h short = (
   h.term,
   record {
     ruled = ruled;
@@ -347,8 +347,10 @@ call_shown s r k d g ls same at ruled letters unmatched h = (
         (subst (λ xs. AreLetters s.spec xs h.term) (sym letters) h.shown.spelled))
         (subst (λ (x : Sourced). (head h.term).bytes ≡ name_of x.spec (Symbol k)) (sym same) (h.called ∙ sym (name_at (symbols s.spec) k d at))));
   },
-  ap (λ (n : ℕ). let f : Found = record { at = n; shown = g.text.items; kind = NotCovered } in f) h.placed
-      ∙ ap (λ (xs : List ℕ). let f : Found = record { at = d.name.at; shown = xs; kind = NotCovered } in f) h.shown.shown,
+  subst (λ xs. length xs ≤ 200) h.shown.shown short,
+  ap (λ (n : ℕ). let f : Found = record { at = n; end = g.end; shown = g.text.items; kind = NotCovered } in f) h.placed
+      ∙ ap (λ (n : ℕ). let f : Found = record { at = d.name.at; end = n; shown = g.text.items; kind = NotCovered } in f) h.ended
+      ∙ ap (found_on NotCovered d.name) h.shown.shown,
 )
 
 -- one term more on a stack
@@ -358,13 +360,13 @@ ground_pushed y n old cut new g e f own all =
     subst (All (IsGroundOf y)) (sym (f ∙ ap (λ gs. gs ++ g ∷ []) e)) (All-push (IsGroundOf y) (take n old) g (All-take (IsGroundOf y) n old all) own)
 
 -- an operator of which an example is shown, and one of which none is
-pub shown_turn : (y : Spec) (k : ℕ) (us : List Found) (e : Example) → length y.constructors ≤ k → IsExampleOf y k e
-    → ShowCalls y (take (k - length y.constructors) y.operators) us → ShowCalls y (take (k + 1 - length y.constructors) y.operators) (us ++ as_example e ∷ [])
+pub shown_turn : (y : Spec) (k : ℕ) (us : List Found) (e : Diagnostic) → length y.constructors ≤ k → IsExampleOf y k e
+    → ShowCalls y (take (k - length y.constructors) y.operators) us → ShowCalls y (take (k + 1 - length y.constructors) y.operators) (us ++ as_diagnostic e ∷ [])
 shown_turn y k us e low h before =
     let i = k - length y.constructors in
     let at = at_behind y.constructors y.operators i k h.declaration (omega (arith, low)) h.at in
-    subst (λ (n : ℕ). ShowCalls y (take n y.operators) (us ++ as_example e ∷ [])) (omega (arith, low))
-    (show_one y i h.declaration us (as_example e) at h.shows before)
+    subst (λ (n : ℕ). ShowCalls y (take n y.operators) (us ++ as_diagnostic e ∷ [])) (omega (arith, low))
+    (show_one y i h.declaration us (as_diagnostic e) at h.shows before)
 
 pub unshown_turn : (y : Spec) (k : ℕ) (us : List Found) → length y.constructors ≤ k → k < length (symbols y)
     → ShowCalls y (take (k - length y.constructors) y.operators) us → ShowCalls y (take (k + 1 - length y.constructors) y.operators) us
@@ -378,3 +380,9 @@ pub shown_all : (y : Spec) (k : ℕ) (us : List Found) → length (symbols y) �
 shown_all y k us past h =
     let both = length-append y.constructors y.operators in
     subst (λ (ds : List Declaration). ShowCalls y ds us) (take_all (k - length y.constructors) y.operators (omega (arith, past, both))) h
+
+-- ---- symbols of which ground terms are made
+
+pub filled_bools : (a b c a' b' c' : Bool) → a ≡ a' → b ≡ b' → c ≡ c' → (not a && (b || c)) ≡ (not a' && (b' || c'))
+filled_bools a b c a' b' c' e f g = ap (λ (x : Bool). not x && (b || c)) e ∙ ap (λ (x : Bool). not a' && (x || c)) f
+    ∙ ap (λ (x : Bool). not a' && (b' || x)) g

@@ -9,14 +9,15 @@ use Rattle.std.specs.Prelude.{None, count_by, length, map, flat_map, filter, tak
 use Rattle.rec_syntax.specs.Tokens.{Word}
 use Rattle.rec_syntax.specs.Syntax.{Term, Terms, Apply, none, more, Declaration, Condition, Rule, Spec, head, arguments, subterms, subterms_all}
 use Rattle.rec_syntax.specs.Nodes.{Node, flat, flat_all, term_count}
-use Rattle.rec_sorts.specs.Lookup.{count, mentions, symbol, same_sort, sort_of, condition_terms, is_variable}
-use Rattle.rec_sorts.specs.SpecRules.{heads, everywhere, is_filled, ill_placed, ill_sorted_in, unlike, missing, variables_among}
+use Rattle.rec_sorts.specs.Lookup.{count, mentions, symbol, sort_of, condition_terms, is_variable}
+use Rattle.rec_sorts.specs.SpecRules.{heads, everywhere, is_filled, missing, variables_among}
 use Rattle.rec_sorts.proofs.StackLemmas.{map-append}
 use Rattle.rec_sorts.proofs.TableLemmas.{same_function}
+use Rattle.rec_check.specs.Errors.{clash, clashing, clashing_in, clashing_sides}
 use Rattle.rec_check.specs.Findings.{HasSame}
 use Rattle.rec_check.specs.Lookups.{argument_sorts, ill_filled_among, present}
 use Rattle.rec_check.specs.Named.{node_words}
-use Rattle.rec_check.specs.Walks.{flat_terms, misfits, ill_sorted_among, unlike_heads, unlike_in_conditions, unlike_in, unbound_in}
+use Rattle.rec_check.specs.Walks.{flat_terms, misfits, misfits_of, ill_sorted_among, unlike_heads, unlike_in_conditions, unlike_in, unbound_in}
 use Rattle.rec_check.proofs.CountLemmas.{count-cons, count-append, same-filter, same-map, same-trans}
 use Rattle.rec_check.proofs.CountLemmas.{same-of, same-flat_map, same-flat_terms, same-flat, node_at}
 
@@ -114,7 +115,7 @@ module _ (y : Spec) where
       (filter (λ n. not (nat_eq n.count (length (argument_sorts y n.word.bytes)))) (flat_terms ts))
       (same-filter (λ n. not (nat_eq n.count (length (argument_sorts y n.word.bytes)))) (map node_at (everywhere ts)) (flat_terms ts) (same-flat_terms ts)))
 
-  -- arguments of another sort than declared
+  -- arguments whose sort clashes with the declared one
   abbrev heads_of : Terms → List Word
   heads_of none = []
   heads_of (more t ts) = head t ∷ heads_of ts
@@ -127,42 +128,64 @@ module _ (y : Spec) where
   misfits-nothing [] = refl
   misfits-nothing (h ∷ hs) = refl
 
-  misfits-placed : (ss : List Word) (ts : Terms) → misfits y (heads_of ts) ss ≡ heads (ill_placed y ss ts)
+  misfits-placed : (ss : List Word) (ts : Terms) → misfits y (heads_of ts) ss ≡ heads (clashing y ss ts)
   misfits-placed [] ts = misfits-nothing (heads_of ts)
   misfits-placed (s ∷ ss) none = refl
-  misfits-placed (s ∷ ss) (more t ts) = by_test (same_sort (sort_of y t) (Some s.bytes)) (misfits-placed ss ts)
+  misfits-placed (s ∷ ss) (more t ts) = by_test (clash y (sort_of y t) (Some s.bytes)) (misfits-placed ss ts)
     where
-      by_test : (b : Bool) → misfits y (heads_of ts) ss ≡ heads (ill_placed y ss ts)
-          → (elim b as (λ _. List Word) [ true ↦ misfits y (heads_of ts) ss | false ↦ head t ∷ misfits y (heads_of ts) ss ]) ≡ heads
-          (elim b [ true ↦ ill_placed y ss ts | false ↦ t ∷ ill_placed y ss ts ])
-      by_test true h = h
-      by_test false h = ap (λ ws. head t ∷ ws) h
+      by_test : (b : Bool) → misfits y (heads_of ts) ss ≡ heads (clashing y ss ts)
+          → (elim b as (λ _. List Word) [ true ↦ head t ∷ misfits y (heads_of ts) ss | false ↦ misfits y (heads_of ts) ss ]) ≡ heads
+          (elim b as (λ _. List Term) [ true ↦ t ∷ clashing y ss ts | false ↦ clashing y ss ts ])
+      by_test true h = ap (λ ws. head t ∷ ws) h
+      by_test false h = h
 
-  misfits-own : (w : Word) (ts : Terms) → misfits y (heads_of ts) (argument_sorts y w.bytes) ≡ heads (ill_sorted_in y (Apply w ts))
+  count-heads_of : (ts : Terms) → length (heads_of ts) ≡ count ts
+  count-heads_of none = refl
+  count-heads_of (more t ts) = omega (arith, count-heads_of ts)
+
+  misfits_of-nothing : (hs : List Word) → misfits_of y hs [] ≡ []
+  misfits_of-nothing hs = by (nat_eq (length hs) 0) (misfits-nothing hs)
+    where
+      by : (b : Bool) → misfits y hs [] ≡ [] → (elim b as (λ _. List Word) [ true ↦ misfits y hs [] | false ↦ [] ]) ≡ []
+      by true e = e
+      by false e = refl
+
+  misfits-own : (w : Word) (ts : Terms) → misfits_of y (heads_of ts) (argument_sorts y w.bytes) ≡ heads (clashing_in y (Apply w ts))
   misfits-own w ts = by_symbol (symbol y w.bytes)
     where
-      by_symbol : (o : Option Declaration) → misfits y (heads_of ts) (elim o as (λ _. List Word) [ Some d ↦ d.arguments | None ↦ [] ]) ≡ heads
-          (elim o as (λ _. List Term) [ Some d ↦ ill_placed y d.arguments ts | None ↦ [] ])
-      by_symbol None = misfits-nothing (heads_of ts)
-      by_symbol (Some d) = misfits-placed d.arguments ts
+      by_count : (b : Bool) (ss : List Word) → (elim b as (λ _. List Word) [ true ↦ misfits y (heads_of ts) ss | false ↦ [] ]) ≡ heads
+          (elim b as (λ _. List Term) [ true ↦ clashing y ss ts | false ↦ [] ])
+      by_count true ss = misfits-placed ss ts
+      by_count false ss = refl
+
+      by_symbol : (o : Option Declaration) → misfits_of y (heads_of ts) (elim o as (λ _. List Word) [ Some d ↦ d.arguments | None ↦ [] ]) ≡ heads
+          (elim o as (λ _. List Term) [
+            | Some d ↦ elim (nat_eq (count ts) (length d.arguments)) as (λ _. List Term) [ true ↦ clashing y d.arguments ts | false ↦ [] ]
+            | None ↦ []
+          ])
+      by_symbol None = misfits_of-nothing (heads_of ts)
+      by_symbol (Some d) =
+          ap (λ (n : ℕ). elim (nat_eq n (length d.arguments)) as (λ _. List Word) [ true ↦ misfits y (heads_of ts) d.arguments | false ↦ [] ])
+          (count-heads_of ts)
+          ∙ by_count (nat_eq (count ts) (length d.arguments)) d.arguments
 
   split_off : (hs : List Word) (ts : Terms) (w : Word) (ns : List Node)
-      → ill_sorted_among y (hs ++ heads_of ts) (record { word = w; count = term_count ts } ∷ ns) ≡ misfits y (heads_of ts)
+      → ill_sorted_among y (hs ++ heads_of ts) (record { word = w; count = term_count ts } ∷ ns) ≡ misfits_of y (heads_of ts)
       (argument_sorts y w.bytes) ++ ill_sorted_among y (hs ++ w ∷ []) ns
   split_off hs ts w ns =
       let base : length (hs ++ heads_of ts) - term_count ts ≡ length hs = omega (arith, length-append hs (heads_of ts), length-heads_of ts) in
-      ap (λ (b : ℕ). misfits y (drop b (hs ++ heads_of ts)) (argument_sorts y w.bytes) ++ ill_sorted_among y (take b (hs ++ heads_of ts) ++ w ∷ []) ns) base
-      ∙ ap (λ zs. misfits y zs (argument_sorts y w.bytes) ++ ill_sorted_among y (take (length hs) (hs ++ heads_of ts) ++ w ∷ []) ns)
+      ap (λ (b : ℕ). misfits_of y (drop b (hs ++ heads_of ts)) (argument_sorts y w.bytes) ++ ill_sorted_among y (take b (hs ++ heads_of ts) ++ w ∷ []) ns) base
+      ∙ ap (λ zs. misfits_of y zs (argument_sorts y w.bytes) ++ ill_sorted_among y (take (length hs) (hs ++ heads_of ts) ++ w ∷ []) ns)
       (drop-append_seam hs (heads_of ts))
-      ∙ ap (λ zs. misfits y (heads_of ts) (argument_sorts y w.bytes) ++ ill_sorted_among y (zs ++ w ∷ []) ns) (take-append_seam hs (heads_of ts))
+      ∙ ap (λ zs. misfits_of y (heads_of ts) (argument_sorts y w.bytes) ++ ill_sorted_among y (zs ++ w ∷ []) ns) (take-append_seam hs (heads_of ts))
 
   abbrev found_in : List Term → List Word
-  found_in us = heads (flat_map (ill_sorted_in y) us)
+  found_in us = heads (flat_map (clashing_in y) us)
 
   found_in-append : (p : Word → Bool) (us vs : List Term) → count_by p (found_in (us ++ vs)) ≡ count_by p (found_in us) + count_by p (found_in vs)
   found_in-append p us vs =
-      ap (λ zs. count_by p (heads zs)) (flat_map-append (ill_sorted_in y) us vs)
-      ∙ ap (count_by p) (map-append head (flat_map (ill_sorted_in y) us) (flat_map (ill_sorted_in y) vs))
+      ap (λ zs. count_by p (heads zs)) (flat_map-append (clashing_in y) us vs)
+      ∙ ap (count_by p) (map-append head (flat_map (clashing_in y) us) (flat_map (clashing_in y) vs))
       ∙ count-append p (found_in us) (found_in vs)
 
   mutual
@@ -175,11 +198,11 @@ module _ (y : Spec) where
         ap (λ zs. count_by p (ill_sorted_among y hs zs)) (append_assoc (flat_all ts) (own ∷ []) ns) in
         let inner : count_by p (ill_sorted_among y hs (flat_all ts ++ own ∷ ns)) ≡ count_by p (found_in (subterms_all ts)) + count_by p
         (ill_sorted_among y (hs ++ heads_of ts) (own ∷ ns)) = walk-terms p hs ts (own ∷ ns) in
-        let split : count_by p (ill_sorted_among y (hs ++ heads_of ts) (own ∷ ns)) ≡ count_by p (heads (ill_sorted_in y (Apply w ts))) + count_by p later =
-        ap (count_by p) (split_off hs ts w ns ∙ ap (λ zs. zs ++ later) (misfits-own w ts)) ∙ count-append p (heads (ill_sorted_in y (Apply w ts))) later in
-        let all : count_by p (found_in (subterms (Apply w ts))) ≡ count_by p (heads (ill_sorted_in y (Apply w ts))) + count_by p (found_in (subterms_all ts)) =
-        ap (count_by p) (map-append head (ill_sorted_in y (Apply w ts)) (flat_map (ill_sorted_in y) (subterms_all ts)))
-        ∙ count-append p (heads (ill_sorted_in y (Apply w ts))) (found_in (subterms_all ts)) in
+        let split : count_by p (ill_sorted_among y (hs ++ heads_of ts) (own ∷ ns)) ≡ count_by p (heads (clashing_in y (Apply w ts))) + count_by p later =
+        ap (count_by p) (split_off hs ts w ns ∙ ap (λ zs. zs ++ later) (misfits-own w ts)) ∙ count-append p (heads (clashing_in y (Apply w ts))) later in
+        let all : count_by p (found_in (subterms (Apply w ts))) ≡ count_by p (heads (clashing_in y (Apply w ts))) + count_by p (found_in (subterms_all ts)) =
+        ap (count_by p) (map-append head (clashing_in y (Apply w ts)) (flat_map (clashing_in y) (subterms_all ts)))
+        ∙ count-append p (heads (clashing_in y (Apply w ts))) (found_in (subterms_all ts)) in
         omega (arith, apart, inner, split, all)
 
     walk-terms : (p : Word → Bool) (hs : List Word) (ts : Terms) (ns : List Node)
@@ -204,7 +227,7 @@ module _ (y : Spec) where
         = found_in-append p (subterms t) (subterms_all ts) in
         omega (arith, apart, first, rest, stack, all)
 
-  pub same-ill_sorted : (hs : List Word) (ts : List Term) → HasSame (heads (flat_map (ill_sorted_in y) (everywhere ts))) (ill_sorted_among y hs (flat_terms ts))
+  pub same-ill_sorted : (hs : List Word) (ts : List Term) → HasSame (heads (flat_map (clashing_in y) (everywhere ts))) (ill_sorted_among y hs (flat_terms ts))
   same-ill_sorted hs [] p = refl
   same-ill_sorted hs (t ∷ ts) p =
       let first : count_by p (ill_sorted_among y hs (flat t ++ flat_terms ts)) ≡ count_by p (found_in (subterms t)) + count_by p
@@ -215,33 +238,33 @@ module _ (y : Spec) where
       found_in-append p (subterms t) (everywhere ts) in
       omega (arith, first, rest, all)
 
-  -- sides of different sorts
-  heads-unlike : (l r : Term) → heads (unlike y l r) ≡ unlike_heads y (head l) (head r)
-  heads-unlike l r = by_test (same_sort (sort_of y l) (sort_of y r))
+  -- sides whose sorts clash
+  heads-unlike : (l r : Term) → heads (clashing_sides y l r) ≡ unlike_heads y (head l) (head r)
+  heads-unlike l r = by_test (clash y (sort_of y l) (sort_of y r))
     where
-      by_test : (b : Bool) → heads (elim b as (λ _. List Term) [ true ↦ [] | false ↦ l ∷ [] ])
-          ≡ (elim b as (λ _. List Word) [ true ↦ [] | false ↦ head l ∷ [] ])
+      by_test : (b : Bool) → heads (elim b as (λ _. List Term) [ true ↦ l ∷ [] | false ↦ [] ])
+          ≡ (elim b as (λ _. List Word) [ true ↦ head l ∷ [] | false ↦ [] ])
       by_test true = refl
       by_test false = refl
 
-  heads-unlike_conditions : (cs : List Condition) → heads (flat_map (λ c. unlike y c.left c.right) cs) ≡ unlike_in_conditions y cs
+  heads-unlike_conditions : (cs : List Condition) → heads (flat_map (λ c. clashing_sides y c.left c.right) cs) ≡ unlike_in_conditions y cs
   heads-unlike_conditions [] = refl
   heads-unlike_conditions (c ∷ cs) =
-      map-append head (unlike y c.left c.right) (flat_map (λ c. unlike y c.left c.right) cs)
-      ∙ ap (λ ws. ws ++ heads (flat_map (λ c. unlike y c.left c.right) cs)) (heads-unlike c.left c.right)
+      map-append head (clashing_sides y c.left c.right) (flat_map (λ c. clashing_sides y c.left c.right) cs)
+      ∙ ap (λ ws. ws ++ heads (flat_map (λ c. clashing_sides y c.left c.right) cs)) (heads-unlike c.left c.right)
       ∙ ap (λ ws. unlike_heads y (head c.left) (head c.right) ++ ws) (heads-unlike_conditions cs)
 
-  heads-unlike_rule : (r : Rule) → heads (unlike y r.left r.right ++ flat_map (λ c. unlike y c.left c.right) r.conditions) ≡ unlike_in y r
+  heads-unlike_rule : (r : Rule) → heads (clashing_sides y r.left r.right ++ flat_map (λ c. clashing_sides y c.left c.right) r.conditions) ≡ unlike_in y r
   heads-unlike_rule r =
-      map-append head (unlike y r.left r.right) (flat_map (λ c. unlike y c.left c.right) r.conditions)
-      ∙ ap (λ ws. ws ++ heads (flat_map (λ c. unlike y c.left c.right) r.conditions)) (heads-unlike r.left r.right)
+      map-append head (clashing_sides y r.left r.right) (flat_map (λ c. clashing_sides y c.left c.right) r.conditions)
+      ∙ ap (λ ws. ws ++ heads (flat_map (λ c. clashing_sides y c.left c.right) r.conditions)) (heads-unlike r.left r.right)
       ∙ ap (λ ws. unlike_heads y (head r.left) (head r.right) ++ ws) (heads-unlike_conditions r.conditions)
 
   pub heads-unlike_rules : (rs : List Rule)
-      → heads (flat_map (λ r. unlike y r.left r.right ++ flat_map (λ c. unlike y c.left c.right) r.conditions) rs) ≡ flat_map (unlike_in y) rs
+      → heads (flat_map (λ r. clashing_sides y r.left r.right ++ flat_map (λ c. clashing_sides y c.left c.right) r.conditions) rs) ≡ flat_map (unlike_in y) rs
   heads-unlike_rules [] = refl
   heads-unlike_rules (r ∷ rs) =
-      let f : Rule → List Term = λ r. unlike y r.left r.right ++ flat_map (λ c. unlike y c.left c.right) r.conditions in
+      let f : Rule → List Term = λ r. clashing_sides y r.left r.right ++ flat_map (λ c. clashing_sides y c.left c.right) r.conditions in
       map-append head (f r) (flat_map f rs)
       ∙ ap (λ ws. ws ++ heads (flat_map f rs)) (heads-unlike_rule r)
       ∙ ap (λ ws. unlike_in y r ++ ws) (heads-unlike_rules rs)

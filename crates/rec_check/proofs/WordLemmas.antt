@@ -1,15 +1,15 @@
 -- Words in the place of the same words.
 use Rattle.std.proofs.Common.{Vec, Global, Result, Ok, Err, refl, sym, ap, ◌∙◌}
 use Rattle.std.proofs.Common.{arith, append_assoc}
-use Rattle.std.proofs.lemmas.List.{take_all, take_more}
-use Rattle.rec_syntax.specs.Lexemes.{word_of}
+use Rattle.std.proofs.lemmas.List.{length-drop, length-take-le, take_all, take_more}
+use Rattle.rec_syntax.specs.Lexemes.{Within, word_of}
 use Rattle.rec_syntax.specs.Parts.{words_of}
 use Rattle.rec_syntax.specs.declared.lexer.Span.{Span}
 use Rattle.rec_sorts.specs.Lookup.{mentions}
 use Rattle.rec_sorts.proofs.StackLemmas.{map-append}
 use Rattle.rec_check.specs.Lookups.{Knows}
 use Rattle.rec_check.specs.declared.names.Names.{Names}
-use Rattle.std.specs.Prelude.{ℕ, ◌≡◌, ◌+◌, ◌<◌, ◌≤◌, List, [], ◌∷◌, ◌++◌, IfOk, count_by, codes, decimal, length, map, take, get_or}
+use Rattle.std.specs.Prelude.{ℕ, ◌≡◌, ◌+◌, ◌-◌, ◌<◌, ◌≤◌, List, [], ◌∷◌, ◌++◌, IfOk, count_by, codes, decimal, length, map, take, drop, get_or}
 use Rattle.std.proofs.Common.{length-append}
 use Rattle.rec_check.specs.Spots.{spot_shown}
 use Rattle.rec_check.specs.declared.spots.Spot.{Spot}
@@ -17,7 +17,14 @@ use Rattle.rec_check.specs.Lines.{shown_text}
 use Rattle.rec_syntax.specs.Tokens as syntax
 use Rattle.rec_check.specs.Findings.{HasSame}
 use Rattle.rec_check.specs.Named.{as_word, as_words}
-use Rattle.rec_check.specs.declared.words.Word.{Word}
+use Rattle.rec_check.specs.declared.located.Word.{Word}
+
+-- the end of a word
+pub word_end : (source : List ℕ) (s : Span) → Within source s → s.to ≡ s.from + length (word_of source s).bytes
+word_end source s h =
+    let left = length-drop s.from source in
+    let long = length-take-le (s.to - s.from) (drop s.from source) (omega (arith, left, h.order, h.end)) in
+    omega (arith, long, h.order)
 
 pub if_ok_same : {E : Type 0} (r : Result (Vec Word Global) E) (zs xs : List syntax.Word) → IfOk r (λ v. as_words v.items ≡ xs) → HasSame zs xs
     → IfOk r (λ v. HasSame zs (as_words v.items))

@@ -1,4 +1,4 @@
--- How far a cursor went over a text (view).
+-- A cursor over a text, as a value: its offset and its location.
 use Rattle.std.specs.Prelude.{ℕ, ◌≡◌, ◌≤◌, ◌+◌, List, length}
 use Rattle.rec_check.specs.Spots.{spot_of}
 use Rattle.rec_check.specs.declared.spots.Cursor.{Cursor}

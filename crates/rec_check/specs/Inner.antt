@@ -1,4 +1,5 @@
--- What the proofs speak of inside this crate: no public contract cites it.
+-- Definitions for the proofs inside this crate. No public contract cites them.
+pub mod Allowances
 pub mod Grounds
 pub mod Inside
 pub mod Rewriters

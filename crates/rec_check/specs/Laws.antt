@@ -1,13 +1,12 @@
--- The law of the places of a broken rule.
+-- The law of the first error.
 use Rattle.std.specs.Prelude.{◌≡◌, List, ◌∷◌, Some}
 use Rattle.rec_syntax.specs.Syntax.{Spec}
 use Rattle.rec_sorts.specs.SpecRules.{Fault, fault}
-use Rattle.rec_check.specs.Findings.{Found, AreInOrder, broken_words, found_at, number_of}
-use Rattle.rec_check.specs.declared.finding.Kind.TheVariants.{Broken}
-use Rattle.rec_check.specs.declared.finding.Rule.{Rule}
+use Rattle.rec_check.specs.Errors.{AreErrors, rule_number}
+use Rattle.rec_check.specs.Findings.{Found}
 
--- where a specification breaks a rule, the first place that is told is that of the verdict
+-- if a specification violates a rule, the first error is that of the verdict: its rule and offset
 abbrev pub FirstPlace : Type 0
-FirstPlace = (y : Spec) (f : Fault) (r : Rule) (fs : List Found) → fault y ≡ Some f
-    → number_of r ≡ f.number → AreInOrder (found_at (Broken r) (broken_words y r)) fs
-    → (first : Found) × (rest : List Found) × (fs ≡ first ∷ rest) × (first.at ≡ f.at)
+FirstPlace = (y : Spec) (f : Fault) (fs : List Found) → fault y ≡ Some f → AreErrors y f fs
+    → (first : Found) × (rest : List Found) × (fs ≡ first ∷ rest)
+    × (first.at ≡ f.at) × (rule_number first.kind ≡ f.number)

@@ -1,4 +1,5 @@
 pub mod Cursors
+pub mod Errors
 pub mod Findings
 pub mod Laws
 pub mod Lines
@@ -6,6 +7,7 @@ pub mod Lookups
 pub mod Named
 pub mod Rewriting
 pub mod Runs
+pub mod Silenced
 pub mod Spots
 pub mod Uncovered
 pub mod Walks

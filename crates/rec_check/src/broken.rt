@@ -1,4 +1,4 @@
-//! The words at which a specification breaks a rule.
+//! The words at which a specification violates a rule, where the rule can be judged.
 
 ghost use Rattle.std.specs.Prelude.{◌≡◌, ◌++◌, ◌∷◌, All, IfOk, OnOk, flat_map, map};
 ghost use Rattle.rec_syntax.specs.Parts.{
@@ -18,9 +18,9 @@ ghost use Rattle.rec_sorts.specs.SpecRules.{
   repeated_symbols,
   taken_variables,
   unknown_sorts,
-  unlike_sides,
 };
-ghost use Rattle.rec_check.specs.Findings.{HasSame, broken_words};
+ghost use Rattle.rec_check.specs.Errors.{declared_names, judged_words};
+ghost use Rattle.rec_check.specs.Findings.{HasSame};
 ghost use Rattle.rec_check.specs.Lookups.{IsScope, Knows, present};
 ghost use Rattle.rec_check.specs.Named.{as_word, as_words, node_words};
 ghost use Rattle.rec_check.specs.Walks.{
@@ -32,16 +32,17 @@ ghost use Rattle.rec_check.specs.Walks.{
 
 use crate::filters::{missing_words, present_words, repeated_words};
 use crate::finding::Rule;
+use crate::located::Word;
 use crate::names::Names;
 use crate::scope::Scope;
 use crate::words::{
-    Word, all_nodes, all_words, declared_words, evaluated_words, named_sorts, operator_words,
+    all_nodes, all_words, declared_words, evaluated_words, named_sorts, operator_words,
     right_words, sort_words, symbol_words, term_words, variables, word_at,
 };
 use rec_syntax::{self, Condition, Syntax, Term};
 use std::alloc::{AllocError, Global};
 
-/// The first word of a term.
+/// Returns the first word of a term.
 pub(crate) fn head_of<'a>(syntax: &'a Syntax, term: &Term) -> Word<'a>
     requires { IsTerm syntax.now.source term.now }
     ensures { as_word result ≡ head (term_of syntax.now.source term.now) }
@@ -52,7 +53,7 @@ pub(crate) fn head_of<'a>(syntax: &'a Syntax, term: &Term) -> Word<'a>
     }
 }
 
-/// The first words of left sides.
+/// Returns the first words of the left-hand sides.
 pub(crate) fn left_heads<'a>(alloc: Global, syntax: &'a Syntax) -> Result<Vec<Word<'a>>, AllocError>
     ensures { IfOk result (λ v. as_words v.items
         ≡ map (λ r. head r.left) syntax.now.spec.rules) }
@@ -64,7 +65,7 @@ pub(crate) fn left_heads<'a>(alloc: Global, syntax: &'a Syntax) -> Result<Vec<Wo
     Ok(heads)
 }
 
-/// The names of the sorts that are declared.
+/// Returns the names of the declared sorts.
 fn sort_names<'a>(alloc: Global, syntax: &'a Syntax) -> Result<Names<'a>, AllocError>
     ensures { IfOk result (λ known. Knows known syntax.now.spec.sorts) }
 {
@@ -72,7 +73,7 @@ fn sort_names<'a>(alloc: Global, syntax: &'a Syntax) -> Result<Names<'a>, AllocE
     Names::of(alloc, &words)
 }
 
-/// The names of operators.
+/// Returns the names of the operators.
 fn operator_names<'a>(alloc: Global, syntax: &'a Syntax) -> Result<Names<'a>, AllocError>
     ensures { IfOk result (λ known. Knows known (names syntax.now.spec.operators)) }
 {
@@ -80,7 +81,7 @@ fn operator_names<'a>(alloc: Global, syntax: &'a Syntax) -> Result<Names<'a>, Al
     Names::of(alloc, &words)
 }
 
-/// The names of variables.
+/// Returns the names of the variables.
 fn variable_names<'a>(alloc: Global, syntax: &'a Syntax) -> Result<Names<'a>, AllocError>
     ensures { IfOk result (λ known. Knows known (variable_words syntax.now.spec.variables)) }
 {
@@ -88,7 +89,7 @@ fn variable_names<'a>(alloc: Global, syntax: &'a Syntax) -> Result<Names<'a>, Al
     Names::of(alloc, &words)
 }
 
-/// The sorts that are not declared.
+/// Returns the undeclared sorts.
 fn unknown_sorts<'a>(alloc: Global, syntax: &'a Syntax) -> Result<Vec<Word<'a>>, AllocError>
     ensures { IfOk result (λ v. as_words v.items ≡ unknown_sorts syntax.now.spec) }
 {
@@ -97,46 +98,47 @@ fn unknown_sorts<'a>(alloc: Global, syntax: &'a Syntax) -> Result<Vec<Word<'a>>,
     missing_words(alloc, &known, &sorts)
 }
 
-/// The names of symbols and variables.
+/// Returns the names of the symbols and variables.
 fn declared_names<'a>(alloc: Global, syntax: &'a Syntax) -> Result<Names<'a>, AllocError>
-    ensures { IfOk result (λ known. Knows known
-        (names (symbols syntax.now.spec) ++ variable_words syntax.now.spec.variables)) }
+    ensures { IfOk result (λ known. Knows known (declared_names syntax.now.spec)) }
 {
     let words = declared_words(alloc, syntax)?;
     Names::of(alloc, &words)
 }
 
-/// The words that are neither symbols nor variables.
+/// Returns the words that are neither symbols nor variables.
 fn unknown_words<'a>(alloc: Global, syntax: &'a Syntax) -> Result<Vec<Word<'a>>, AllocError>
     ensures { IfOk result
-        (λ v. HasSame (broken_words syntax.now.spec Rule.WordUnknown) (as_words v.items)) }
+        (λ v. HasSame (judged_words syntax.now.spec Rule.WordUnknown) (as_words v.items)) }
 {
     let known = declared_names(alloc, syntax)?;
     let words = all_words(alloc, syntax)?;
     missing_words(alloc, &known, &words)
 }
 
-/// The words with another number of arguments than declared.
+/// Returns the declared names with the wrong number of arguments.
 fn ill_filled_words<'a>(alloc: Global, syntax: &'a Syntax) -> Result<Vec<Word<'a>>, AllocError>
     ensures { IfOk result
-        (λ v. HasSame (broken_words syntax.now.spec Rule.IllFilled) (as_words v.items)) }
+        (λ v. HasSame (judged_words syntax.now.spec Rule.IllFilled) (as_words v.items)) }
 {
+    let known = declared_names(alloc, syntax)?;
     let scope = Scope::of(alloc, syntax)?;
     let nodes = all_nodes(alloc, syntax)?;
-    scope.ill_filled_words(alloc, &nodes)
+    let words = scope.ill_filled_words(alloc, &nodes)?;
+    present_words(alloc, &known, &words)
 }
 
-/// The arguments of another sort than declared.
+/// Returns the arguments whose sort clashes with the declared one.
 fn ill_sorted_words<'a>(alloc: Global, syntax: &'a Syntax) -> Result<Vec<Word<'a>>, AllocError>
     ensures { IfOk result
-        (λ v. HasSame (broken_words syntax.now.spec Rule.IllSorted) (as_words v.items)) }
+        (λ v. HasSame (judged_words syntax.now.spec Rule.IllSorted) (as_words v.items)) }
 {
     let scope = Scope::of(alloc, syntax)?;
     let nodes = all_nodes(alloc, syntax)?;
     scope.ill_sorted_words(alloc, &nodes)
 }
 
-/// The left sides that begin with no operator.
+/// Returns the first words of the left-hand sides that do not start with an operator.
 fn ill_headed_words<'a>(alloc: Global, syntax: &'a Syntax) -> Result<Vec<Word<'a>>, AllocError>
     ensures { IfOk result (λ v. as_words v.items ≡ ill_headed syntax.now.spec) }
 {
@@ -145,7 +147,17 @@ fn ill_headed_words<'a>(alloc: Global, syntax: &'a Syntax) -> Result<Vec<Word<'a
     missing_words(alloc, &known, &heads)
 }
 
-/// The conditions whose sides have different sorts, behind other words.
+/// Returns the first words of the left-hand sides that start with a constructor or a variable.
+fn constructor_heads<'a>(alloc: Global, syntax: &'a Syntax) -> Result<Vec<Word<'a>>, AllocError>
+    ensures { IfOk result
+        (λ v. as_words v.items ≡ judged_words syntax.now.spec Rule.IllHeaded) }
+{
+    let known = declared_names(alloc, syntax)?;
+    let words = ill_headed_words(alloc, syntax)?;
+    present_words(alloc, &known, &words)
+}
+
+/// Appends the first words of the conditions whose sides have sorts that clash.
 fn push_unlike_conditions<'a>(
     syntax: &'a Syntax,
     scope: &Scope<'a>,
@@ -167,7 +179,7 @@ fn push_unlike_conditions<'a>(
     Ok(())
 }
 
-/// Where the sides of a rule or of its conditions have different sorts, behind other words.
+/// Appends the first words of the rule and of its conditions whose sides have sorts that clash.
 fn push_unlike_rule<'a>(
     syntax: &'a Syntax,
     scope: &Scope<'a>,
@@ -186,7 +198,7 @@ fn push_unlike_rule<'a>(
     push_unlike_conditions(syntax, scope, rule.conditions.as_slice(), found)
 }
 
-/// The same of rules.
+/// Appends the first words of the rules and conditions whose sides have sorts that clash.
 fn push_unlike_rules<'a>(
     syntax: &'a Syntax,
     scope: &Scope<'a>,
@@ -205,9 +217,10 @@ fn push_unlike_rules<'a>(
     Ok(())
 }
 
-/// The sides of rules and conditions that have different sorts.
+/// Returns the first words of the rules and conditions whose sides have sorts that clash.
 fn unlike_sides<'a>(alloc: Global, syntax: &'a Syntax) -> Result<Vec<Word<'a>>, AllocError>
-    ensures { IfOk result (λ v. as_words v.items ≡ unlike_sides syntax.now.spec) }
+    ensures { IfOk result
+        (λ v. as_words v.items ≡ judged_words syntax.now.spec Rule.UnlikeSides) }
 {
     let scope = Scope::of(alloc, syntax)?;
     let mut found = Vec::new(alloc);
@@ -215,7 +228,7 @@ fn unlike_sides<'a>(alloc: Global, syntax: &'a Syntax) -> Result<Vec<Word<'a>>, 
     Ok(found)
 }
 
-/// The names in a rule's left side.
+/// Returns the names in a rule's left-hand side.
 fn left_names<'a>(
     alloc: Global,
     syntax: &'a Syntax,
@@ -229,7 +242,8 @@ fn left_names<'a>(
     Names::of(alloc, &words)
 }
 
-/// The variables of a rule's right side and conditions, where these names are those of variables.
+/// Returns the variables in a rule's right-hand side and conditions. `known` has the names of
+/// variables.
 fn used_variables<'a>(
     alloc: Global,
     syntax: &'a Syntax,
@@ -247,7 +261,8 @@ fn used_variables<'a>(
     present_words(alloc, known, &words)
 }
 
-/// The variables of a rule that are not in its left side, where these names are those of variables.
+/// Returns the variables of a rule that are not in its left-hand side. `known` has the names of
+/// variables.
 fn unbound_variables_of<'a>(
     alloc: Global,
     syntax: &'a Syntax,
@@ -264,7 +279,7 @@ fn unbound_variables_of<'a>(
     missing_words(alloc, &bound, &used)
 }
 
-/// The same of rules, behind other words.
+/// Appends the variables of these rules that are not in the left-hand sides.
 fn push_unbound<'a>(
     alloc: Global,
     syntax: &'a Syntax,
@@ -284,10 +299,10 @@ fn push_unbound<'a>(
     Ok(())
 }
 
-/// The variables of right sides and conditions that are not in their left sides.
+/// Returns the variables of right-hand sides and conditions that are not in the left-hand sides.
 fn unbound_variables<'a>(alloc: Global, syntax: &'a Syntax) -> Result<Vec<Word<'a>>, AllocError>
     ensures { IfOk result
-        (λ v. HasSame (broken_words syntax.now.spec Rule.Unbound) (as_words v.items)) }
+        (λ v. HasSame (judged_words syntax.now.spec Rule.Unbound) (as_words v.items)) }
 {
     let known = variable_names(alloc, syntax)?;
     let mut found = Vec::new(alloc);
@@ -295,17 +310,17 @@ fn unbound_variables<'a>(alloc: Global, syntax: &'a Syntax) -> Result<Vec<Word<'
     Ok(found)
 }
 
-/// The variables of the terms to evaluate.
+/// Returns the variables of the EVAL terms.
 fn open_terms<'a>(alloc: Global, syntax: &'a Syntax) -> Result<Vec<Word<'a>>, AllocError>
     ensures { IfOk result
-        (λ v. HasSame (broken_words syntax.now.spec Rule.OpenTerm) (as_words v.items)) }
+        (λ v. HasSame (judged_words syntax.now.spec Rule.OpenTerm) (as_words v.items)) }
 {
     let known = variable_names(alloc, syntax)?;
     let words = evaluated_words(alloc, syntax)?;
     present_words(alloc, &known, &words)
 }
 
-/// The sorts that are declared twice.
+/// Returns the sorts that are declared again.
 fn repeated_sorts<'a>(alloc: Global, syntax: &'a Syntax) -> Result<Vec<Word<'a>>, AllocError>
     ensures { IfOk result (λ v. as_words v.items ≡ repeated_sorts syntax.now.spec) }
 {
@@ -313,7 +328,7 @@ fn repeated_sorts<'a>(alloc: Global, syntax: &'a Syntax) -> Result<Vec<Word<'a>>
     repeated_words(alloc, &[], &sorts)
 }
 
-/// The symbols that are declared twice.
+/// Returns the symbols that are declared again.
 fn repeated_symbols<'a>(alloc: Global, syntax: &'a Syntax) -> Result<Vec<Word<'a>>, AllocError>
     ensures { IfOk result (λ v. as_words v.items ≡ repeated_symbols syntax.now.spec) }
 {
@@ -321,7 +336,7 @@ fn repeated_symbols<'a>(alloc: Global, syntax: &'a Syntax) -> Result<Vec<Word<'a
     repeated_words(alloc, &[], &symbols)
 }
 
-/// The variables that are declared twice, or have a symbol's name.
+/// Returns the variables that are declared again, or that have the name of a symbol.
 fn taken_variables<'a>(alloc: Global, syntax: &'a Syntax) -> Result<Vec<Word<'a>>, AllocError>
     ensures { IfOk result (λ v. as_words v.items ≡ taken_variables syntax.now.spec) }
 {
@@ -330,13 +345,14 @@ fn taken_variables<'a>(alloc: Global, syntax: &'a Syntax) -> Result<Vec<Word<'a>
     repeated_words(alloc, &symbols, &variables)
 }
 
-/// All words at which a specification breaks a rule, in any order.
-pub fn broken_words<'a>(
+/// Returns the words at which a specification violates `rule`, in any order: all of them if the
+/// rules before it hold, otherwise those that can be judged. The only error is out of memory.
+pub fn judged_words<'a>(
     alloc: Global,
     syntax: &'a Syntax,
     rule: Rule,
 ) -> Result<Vec<Word<'a>>, AllocError>
-    ensures { IfOk result (λ v. HasSame (broken_words syntax.now.spec rule) (as_words v.items)) }
+    ensures { IfOk result (λ v. HasSame (judged_words syntax.now.spec rule) (as_words v.items)) }
 {
     match rule {
         Rule::SortTwice => repeated_sorts(alloc, syntax),
@@ -346,7 +362,7 @@ pub fn broken_words<'a>(
         Rule::WordUnknown => unknown_words(alloc, syntax),
         Rule::IllFilled => ill_filled_words(alloc, syntax),
         Rule::IllSorted => ill_sorted_words(alloc, syntax),
-        Rule::IllHeaded => ill_headed_words(alloc, syntax),
+        Rule::IllHeaded => constructor_heads(alloc, syntax),
         Rule::UnlikeSides => unlike_sides(alloc, syntax),
         Rule::Unbound => unbound_variables(alloc, syntax),
         Rule::OpenTerm => open_terms(alloc, syntax),

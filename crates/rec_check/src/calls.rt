@@ -1,38 +1,46 @@
-//! The search for calls that no left side matches. A call has a hole for each argument at first;
-//! where a left side has a symbol in place of a hole, each constructor of the hole's sort is tried
-//! there. What is found is asked anew of all left sides.
+//! The search for missing cases: calls that no left-hand side matches.
+//!
+//! The search starts with a call that has a hole for each argument. If a left-hand side has a
+//! symbol instead of a hole, each constructor of the hole's sort is tried there. If a variable is
+//! repeated in a left-hand side, the holes are filled with equal and with different terms. A call
+//! that is found is compared with all left-hand sides once more. If no call is found, used operators
+//! without rules are tried like constructors.
 
 ghost use Rattle.std.specs.Prelude.{◌≡◌, IfOk, IfSome};
-ghost use Rattle.rec_check.specs.Findings.{AreUncovered, as_examples};
+ghost use Rattle.rec_check.specs.Findings.{AreUncovered, as_diagnostics};
 ghost use Rattle.rec_check.specs.Inner.Grounds.{IsAsker, IsExampleOf};
 ghost use Rattle.rec_check.specs.Inner.Trials.{AreSizes};
 
-use crate::fillings::{MOST, MOST_LETTERS, Shapes, fill_holes};
-use crate::finding::Example;
+use crate::fillings::{MOST, MOST_LETTERS, Picker, Reach, Shapes, count_holes};
+use crate::finding::Diagnostic;
 use crate::matching::{Terms, sizes};
 use crate::uncovered::Asker;
 use rec_sorts::{Checked, Letter, Meaning};
 use std::alloc::{AllocError, Global};
 
-/// How many calls of an operator are tried.
+/// The largest number of calls that are tried for one operator.
 const MOST_CALLS: usize = 1_000;
-/// How often left sides are compared with calls, of all operators together.
+/// The largest number of comparisons of left-hand sides with calls, for all operators together.
 const MOST_TRIES: usize = 2_000_000;
-/// How many such tries a call counts for whose holes are filled.
+/// The number of comparisons that filling the holes of a call counts for.
 const TRIES_TO_FILL: usize = 100;
+/// The largest number of holes that are filled with first and second terms in all ways.
+const MOST_HOLES: usize = 5;
 
-/// What a left side is to a call with holes.
+/// The relation of a left-hand side to a call with holes.
 #[derive(Clone, Copy, Drop)]
 enum Fit {
-    /// It matches no filling of it.
+    /// It matches no filling of the call.
     Apart,
-    /// It matches each.
+    /// It matches the fillings in which some subterms are equal.
+    Repeats,
+    /// It matches every filling.
     Covers,
-    /// It has a symbol in place of the hole that is this letter.
+    /// It has a symbol instead of the hole with this index.
     Opens(usize),
 }
 
-/// Whether a letter is among others.
+/// Returns whether an item is among these.
 fn is_among(letters: &[Letter], letter: Letter) -> bool {
     for other in letters {
         if *other == letter {
@@ -42,7 +50,7 @@ fn is_among(letters: &[Letter], letter: Letter) -> bool {
     false
 }
 
-/// Whether a variable stands twice in a left side.
+/// Returns whether a left-hand side has a variable more than once.
 fn has_repeated(left: &[Letter]) -> bool {
     for (i, letter) in left.iter().enumerate() {
         if let Meaning::Variable(_) = letter.meaning {
@@ -54,7 +62,7 @@ fn has_repeated(left: &[Letter]) -> bool {
     false
 }
 
-/// Compares a left side, in which no variable counts as repeated, with a call.
+/// Compares a left-hand side with a call, as if no variable occurred twice.
 fn compare_linear(left: &[Letter], call: Terms<'_, '_>) -> Fit
     requires { AreSizes call.letters.now call.sizes.now }
 {
@@ -79,7 +87,7 @@ fn compare_linear(left: &[Letter], call: Terms<'_, '_>) -> Fit
     Fit::Covers
 }
 
-/// Compares a left side with a call. One in which a variable is repeated covers none.
+/// Compares a left-hand side with a call.
 fn compare(left: &[Letter], call: Terms<'_, '_>) -> Fit
     requires { AreSizes call.letters.now call.sizes.now }
 {
@@ -87,20 +95,80 @@ fn compare(left: &[Letter], call: Terms<'_, '_>) -> Fit
         return Fit::Apart;
     }
     match compare_linear(left, call) {
-        Fit::Covers if has_repeated(left) => Fit::Apart,
+        Fit::Covers if has_repeated(left) => Fit::Repeats,
         fit => fit,
     }
 }
 
-/// The search in a specification.
+/// The number of ways to fill holes with first and second terms.
+fn ways_to_fill(holes: usize) -> usize {
+    let mut ways: usize = 1;
+    for _hole in 0..holes.min(MOST_HOLES) {
+        ways = ways.saturating_mul(2);
+    }
+    ways
+}
+
+/// The operator of which a call is searched, and the shapes of its arguments.
+#[derive(Clone, Copy, Drop)]
+struct Goal<'s> {
+    operator: u32,
+    shapes: &'s Shapes,
+}
+
+/// The search for missing cases of a specification.
 #[derive(Drop)]
 struct Search<'a> {
     asker: Asker<'a>,
-    shapes: Shapes,
+    /// Shapes of constructors.
+    constructors: Shapes,
+    /// Shapes of constructors and of used operators without rules, if there are such operators.
+    operators: Option<Shapes>,
+}
+
+impl Goal<'_> {
+    /// Returns a call with a symbol, applied to holes, instead of a hole.
+    fn with_symbol(
+        self,
+        alloc: Global,
+        call: &[Letter],
+        at: usize,
+        symbol: u32,
+    ) -> Result<Vec<Letter>, AllocError> {
+        let mut letters = Vec::new(alloc);
+        for (i, letter) in call.iter().enumerate() {
+            match self.shapes.opened.get(symbol as usize) {
+                Some(open) if i == at => letters.extend_from_slice(open)?,
+                _ => letters.push(*letter)?,
+            }
+        }
+        Ok(letters)
+    }
+
+    /// Appends the calls with each symbol instead of a hole.
+    fn push_opened(
+        self,
+        alloc: Global,
+        call: &[Letter],
+        at: usize,
+        calls: &mut Vec<Vec<Letter>>,
+    ) -> Result<(), AllocError> {
+        for symbol in self.shapes.symbols_for(call, at) {
+            if calls.len() >= MOST_CALLS {
+                return Ok(());
+            }
+            let next = self.with_symbol(alloc, call, at, *symbol)?;
+            if next.len() <= MOST_LETTERS {
+                calls.push(next)?;
+            }
+        }
+        Ok(())
+    }
 }
 
 impl<'a> Search<'a> {
-    /// What the first left side of an operator that is not apart from a call is to it.
+    /// Returns the relation to a call of the first left-hand side that covers or opens it. If there
+    /// is none, returns whether a left-hand side repeats a variable.
     fn first_fit(&self, operator: u32, call: Terms<'_, '_>, tries: &mut usize) -> Fit
         requires { AreSizes call.letters.now call.sizes.now }
     {
@@ -108,17 +176,18 @@ impl<'a> Search<'a> {
         let mut rule = self.asker.rewriter.first_rule(operator);
         let mut fit = Fit::Apart;
         while *tries > 0 && rule < rules.len() {
-            fit = compare(&rules[rule].left, call);
-            match fit {
-                Fit::Apart => rule = self.asker.rewriter.next_rule(rule),
-                _ => return fit,
+            match compare(&rules[rule].left, call) {
+                Fit::Apart => {}
+                Fit::Repeats => fit = Fit::Repeats,
+                other => return other,
             }
+            rule = self.asker.rewriter.next_rule(rule);
             *tries -= 1;
         }
         fit
     }
 
-    /// The same of the letters of a call.
+    /// Returns the relation to a call in postfix form, as [`Search::first_fit`] does.
     fn fit(
         &self,
         alloc: Global,
@@ -134,147 +203,143 @@ impl<'a> Search<'a> {
         Ok(self.first_fit(operator, terms, tries))
     }
 
-    /// A constructor over holes in place of a hole of a call.
-    fn with_constructor(
-        &self,
-        alloc: Global,
-        call: &[Letter],
-        at: usize,
-        constructor: u32,
-    ) -> Result<Vec<Letter>, AllocError> {
-        let mut letters = Vec::new(alloc);
-        for (i, letter) in call.iter().enumerate() {
-            match self.shapes.opened.get(constructor as usize) {
-                Some(open) if i == at => letters.extend_from_slice(open)?,
-                _ => letters.push(*letter)?,
-            }
-        }
-        Ok(letters)
-    }
-
-    /// The calls with each constructor in place of a hole, behind other calls.
-    fn push_with_constructors(
-        &self,
-        alloc: Global,
-        call: &[Letter],
-        at: usize,
-        calls: &mut Vec<Vec<Letter>>,
-    ) -> Result<(), AllocError> {
-        for constructor in self.shapes.constructors_for(call, at) {
-            if calls.len() >= MOST_CALLS {
-                return Ok(());
-            }
-            let next = self.with_constructor(alloc, call, at, *constructor)?;
-            if next.len() <= MOST_LETTERS {
-                calls.push(next)?;
-            }
-        }
-        Ok(())
-    }
-
-    /// Asks a call whose holes are filled.
+    /// Fills the holes of a call, and returns it if no left-hand side matches it.
     fn ask_filled(
         &self,
         alloc: Global,
-        operator: u32,
+        goal: Goal<'_>,
         call: &[Letter],
-        is_mixed: bool,
-    ) -> Result<Option<Example>, AllocError>
+        picker: Picker,
+    ) -> Result<Option<Diagnostic>, AllocError>
         requires { IsAsker self.now.asker }
         ensures { IfOk result
-            (λ o. IfSome o (IsExampleOf self.now.asker.checked.now.spec operator)) }
+            (λ o. IfSome o (IsExampleOf self.now.asker.checked.now.spec goal.entry.operator)) }
     {
-        let letters = fill_holes(alloc, &self.shapes.fillings, call, is_mixed)?;
+        let letters = goal.shapes.fill_holes(alloc, call, picker)?;
         match letters.split_last() {
-            Some((_operator, arguments)) => self.asker.example(alloc, operator, arguments),
+            Some((_operator, arguments)) => self.asker.example(alloc, goal.operator, arguments),
             None => Ok(None),
         }
     }
 
-    /// Asks a call that a left side with a repeated variable at most matches.
-    fn ask(
+    /// Fills the holes of a call with equal and with different terms, and returns the first result
+    /// that no left-hand side matches.
+    fn ask_repeated(
         &self,
         alloc: Global,
-        operator: u32,
+        goal: Goal<'_>,
         call: &[Letter],
-    ) -> Result<Option<Example>, AllocError>
+        tries: &mut usize,
+    ) -> Result<Option<Diagnostic>, AllocError>
         requires { IsAsker self.now.asker }
         ensures { IfOk result
-            (λ o. IfSome o (IsExampleOf self.now.asker.checked.now.spec operator)) }
+            (λ o. IfSome o (IsExampleOf self.now.asker.checked.now.spec goal.entry.operator)) }
     {
-        match self.ask_filled(alloc, operator, call, false)? {
-            Some(example) => Ok(Some(example)),
-            None => self.ask_filled(alloc, operator, call, true),
+        let ways = ways_to_fill(count_holes(call));
+        let weight = ways / 2;
+        for bits in 0..ways {
+            *tries = tries.saturating_sub(TRIES_TO_FILL);
+            let found = self.ask_filled(alloc, goal, call, Picker::Bits { bits, weight })?;
+            if found.is_some() {
+                return Ok(found);
+            }
         }
+        self.ask_filled(alloc, goal, call, Picker::Different(0))
     }
 
-    /// Tries a call: it is asked, or more calls are to be tried in its place.
+    /// Tries a call: checks it, or adds more specific calls.
     fn try_call(
         &self,
         alloc: Global,
-        operator: u32,
+        goal: Goal<'_>,
         call: &[Letter],
         calls: &mut Vec<Vec<Letter>>,
         tries: &mut usize,
-    ) -> Result<Option<Example>, AllocError>
+    ) -> Result<Option<Diagnostic>, AllocError>
         requires { IsAsker self.now.asker }
         ensures { IfOk result
-            (λ o. IfSome o (IsExampleOf self.now.asker.checked.now.spec operator)) }
+            (λ o. IfSome o (IsExampleOf self.now.asker.checked.now.spec goal.entry.operator)) }
     {
-        match self.fit(alloc, operator, call, tries)? {
+        match self.fit(alloc, goal.operator, call, tries)? {
             Fit::Covers => Ok(None),
             Fit::Opens(at) => {
-                self.push_with_constructors(alloc, call, at, calls)?;
+                goal.push_opened(alloc, call, at, calls)?;
                 Ok(None)
             }
+            Fit::Repeats => self.ask_repeated(alloc, goal, call, tries),
             Fit::Apart => {
                 *tries = tries.saturating_sub(TRIES_TO_FILL);
-                self.ask(alloc, operator, call)
+                self.ask_filled(alloc, goal, call, Picker::First)
             }
         }
     }
 
-    /// The first calls of an operator: one over holes, where a left side begins with it.
-    fn first_calls(&self, alloc: Global, operator: u32) -> Result<Vec<Vec<Letter>>, AllocError>
+    /// Returns the first call to try: an operator applied to holes, if it has rules.
+    fn first_calls(&self, alloc: Global, goal: Goal<'_>) -> Result<Vec<Vec<Letter>>, AllocError>
         requires { IsAsker self.now.asker }
     {
         let mut calls = Vec::new(alloc);
-        if let Some(open) = self.shapes.opened.get(operator as usize) {
-            if self.asker.is_ruled(operator) {
+        if let Some(open) = goal.shapes.opened.get(goal.operator as usize) {
+            if self.asker.is_ruled(goal.operator) {
                 calls.push(open.clone()?)?;
             }
         }
         Ok(calls)
     }
 
-    /// A call of an operator that no left side matches, where one is found.
-    fn example(
+    /// Returns a call of an operator that no left-hand side matches, if one is found.
+    fn search(
         &self,
         alloc: Global,
-        operator: u32,
+        goal: Goal<'_>,
         tries: &mut usize,
-    ) -> Result<Option<Example>, AllocError>
+    ) -> Result<Option<Diagnostic>, AllocError>
         requires { IsAsker self.now.asker }
         ensures { IfOk result
-            (λ o. IfSome o (IsExampleOf self.now.asker.checked.now.spec operator)) }
+            (λ o. IfSome o (IsExampleOf self.now.asker.checked.now.spec goal.entry.operator)) }
     {
-        let mut calls = self.first_calls(alloc, operator)?;
+        let mut calls = self.first_calls(alloc, goal)?;
         let mut found = None;
         for next in 0..MOST_CALLS {
             if found.is_some() || next >= calls.len() || *tries == 0 {
                 break;
             }
             let call = calls[next].clone()?;
-            found = self.try_call(alloc, operator, &call, &mut calls, tries)?;
+            found = self.try_call(alloc, goal, &call, &mut calls, tries)?;
         }
         Ok(found)
     }
 
-    /// The examples that are found, operator by operator.
-    fn examples(&self, alloc: Global) -> Result<Vec<Example>, AllocError>
+    /// Returns a call of an operator that no left-hand side matches, if one is found: with
+    /// constructors, or else with used operators without rules.
+    fn example(
+        &self,
+        alloc: Global,
+        operator: u32,
+        tries: &mut usize,
+    ) -> Result<Option<Diagnostic>, AllocError>
+        requires { IsAsker self.now.asker }
+        ensures { IfOk result
+            (λ o. IfSome o (IsExampleOf self.now.asker.checked.now.spec operator)) }
+    {
+        let goal = Goal {
+            operator,
+            shapes: &self.constructors,
+        };
+        let found = self.search(alloc, goal, tries)?;
+        match &self.operators {
+            Some(shapes) if found.is_none() => {
+                self.search(alloc, Goal { operator, shapes }, tries)
+            }
+            _ => Ok(found),
+        }
+    }
+
+    /// Returns the calls that are found, operator by operator.
+    fn examples(&self, alloc: Global) -> Result<Vec<Diagnostic>, AllocError>
         requires { IsAsker self.now.asker }
         ensures { IfOk result (λ v.
-            AreUncovered self.now.asker.checked.now.spec (as_examples v.items)) }
+            AreUncovered self.now.asker.checked.now.spec (as_diagnostics v.items)) }
     {
         let checked = self.asker.checked;
         let mut examples = Vec::new(alloc);
@@ -288,35 +353,44 @@ impl<'a> Search<'a> {
     }
 }
 
-/// What a search in a specification needs.
+/// Prepares the search for a specification.
 fn prepare(alloc: Global, checked: &Checked) -> Result<Search<'_>, AllocError>
     ensures asker { IfOk result (λ s. IsAsker s.asker) }
     ensures same { IfOk result (λ s. s.asker.checked.now ≡ checked.now) }
 {
     let asker = Asker::of(alloc, checked)?;
-    let shapes = Shapes::of(alloc, &asker)?;
-    Ok(Search { asker, shapes })
+    let constructors = Shapes::of(alloc, &asker, Reach::Constructors)?;
+    let operators = if asker.has_filling_operator() {
+        Some(Shapes::of(alloc, &asker, Reach::Operators)?)
+    } else {
+        None
+    };
+    Ok(Search {
+        asker,
+        constructors,
+        operators,
+    })
 }
 
-/// The examples that a search finds.
-fn find_examples(alloc: Global, checked: &Checked) -> Result<Vec<Example>, AllocError>
-    ensures { IfOk result (λ v. AreUncovered checked.now.spec (as_examples v.items)) }
+/// Searches, and returns the calls that are found.
+fn find_examples(alloc: Global, checked: &Checked) -> Result<Vec<Diagnostic>, AllocError>
+    ensures { IfOk result (λ v. AreUncovered checked.now.spec (as_diagnostics v.items)) }
 {
     let search = prepare(alloc, checked)?;
     search.examples(alloc)
 }
 
-/// Whether a specification has few sorts, symbols and rules.
+/// Returns whether a specification is small enough for the search.
 fn is_small(checked: &Checked) -> bool {
     checked.rules().len() <= MOST
         && checked.symbols() as usize <= MOST
         && checked.syntax().sorts().len() <= MOST
 }
 
-/// Calls of operators over terms of constructors that no rule's left side matches, at most one of
-/// each operator. That there is none where none is shown is not claimed.
-pub fn uncovered_calls(alloc: Global, checked: &Checked) -> Result<Vec<Example>, AllocError>
-    ensures { IfOk result (λ v. AreUncovered checked.now.spec (as_examples v.items)) }
+/// Returns calls of operators with ground terms as arguments that no left-hand side matches,
+/// at most one for each operator. If there is none for an operator, nothing is promised.
+pub fn uncovered_calls(alloc: Global, checked: &Checked) -> Result<Vec<Diagnostic>, AllocError>
+    ensures { IfOk result (λ v. AreUncovered checked.now.spec (as_diagnostics v.items)) }
 {
     if is_small(checked) {
         find_examples(alloc, checked)

@@ -1,5 +1,5 @@
-//! Letters of terms with holes, and terms of constructors for the holes. Nothing is claimed of them
-//! here: what is made of them is asked anew.
+//! Calls with holes, and ground terms that fill the holes. No contract states a property of
+//! them: each call that is built from them is checked on its own.
 
 ghost use Rattle.rec_syntax.specs.Parts.{IsDeclaration, Within};
 ghost use Rattle.rec_check.specs.Inner.Grounds.{IsAsker};
@@ -12,16 +12,16 @@ use rec_sorts::{Letter, Meaning};
 use rec_syntax::{Declaration, Span, Syntax};
 use std::alloc::{AllocError, Global};
 
-/// How many sorts, symbols or rules a specification has at most, of which calls are searched.
+/// The largest number of sorts, symbols or rules for which missing cases are searched.
 pub(crate) const MOST: usize = 100_000;
-/// How many letters a term has at most.
+/// The largest size of a term, in postfix items.
 pub(crate) const MOST_LETTERS: usize = 100;
-/// How many terms of a sort are kept.
-const MOST_TERMS: usize = 2;
-/// How deep they are at most.
+/// The number of terms that are kept of a sort.
+const MOST_TERMS: usize = 6;
+/// The largest depth of such a term.
 const DEEPEST: usize = 8;
 
-/// A hole of the sort of a number, where any term of constructors may stand.
+/// Returns a hole, which any ground term of this sort may fill.
 fn hole(sort: u32) -> Letter {
     Letter {
         meaning: Meaning::Variable(sort),
@@ -29,7 +29,7 @@ fn hole(sort: u32) -> Letter {
     }
 }
 
-/// The number of a sort.
+/// Returns the number of a sort.
 fn sort_number(syntax: &Syntax, sorts: &Names<'_>, sort: Span) -> u32
     requires { Within syntax.now.source sort }
 {
@@ -39,7 +39,7 @@ fn sort_number(syntax: &Syntax, sorts: &Names<'_>, sort: Span) -> u32
     }
 }
 
-/// A symbol over holes.
+/// Returns a symbol applied to holes.
 fn open_call(
     alloc: Global,
     syntax: &Syntax,
@@ -61,7 +61,7 @@ fn open_call(
     Ok(letters)
 }
 
-/// Whether the letters have no hole, and are few.
+/// Returns whether these items have no hole and are not too many.
 fn is_whole(letters: &[Letter]) -> bool {
     for letter in letters {
         if let Meaning::Variable(_) = letter.meaning {
@@ -71,75 +71,123 @@ fn is_whole(letters: &[Letter]) -> bool {
     letters.len() <= MOST_LETTERS
 }
 
-/// What can stand in the holes of a sort.
+/// The symbols that ground terms are made of.
+#[derive(Clone, Copy, Drop)]
+pub(crate) enum Reach {
+    /// Only constructors.
+    Constructors,
+    /// Constructors, and used operators without rules.
+    Operators,
+}
+
+/// Picks the term for each hole of a call, by its number among the terms of the hole's sort.
+#[derive(Clone, Copy, Drop)]
+pub(crate) enum Picker {
+    /// The first terms.
+    First,
+    /// First and second terms, by the bits of a number. `weight` is that of the next hole's bit.
+    Bits { bits: usize, weight: usize },
+    /// Different terms, from this number on.
+    Different(usize),
+    /// The last terms.
+    Last,
+}
+
+impl Picker {
+    /// Returns the number of the next term, among `count`.
+    fn pick(&mut self, count: usize) -> usize {
+        match *self {
+            Picker::First => 0,
+            Picker::Bits { bits, weight } => {
+                *self = Picker::Bits {
+                    bits,
+                    weight: weight / 2,
+                };
+                if weight == 0 { 0 } else { bits / weight % 2 }
+            }
+            Picker::Different(number) => {
+                *self = Picker::Different(number.saturating_add(1));
+                number
+            }
+            Picker::Last => count.saturating_sub(1),
+        }
+    }
+}
+
+/// The symbols and terms that can fill the holes of a sort.
 #[derive(Drop)]
 pub(crate) struct Filling {
-    /// The symbols of the sort with which no left side begins.
-    constructors: Vec<u32>,
-    /// Some terms of them.
+    /// The symbols, constructors first.
+    symbols: Vec<u32>,
+    /// Some terms of these symbols.
     terms: Vec<Vec<Letter>>,
 }
 
 impl Filling {
-    /// A term for a hole: the first one, or another one.
-    fn term(&self, is_other: bool) -> Option<&[Letter]> {
-        if is_other && self.terms.len() > 1 {
-            Some(&self.terms[1])
-        } else if self.terms.len() > 0 {
-            Some(&self.terms[0])
-        } else {
-            None
+    /// Returns the term that is picked, if there are terms.
+    fn term(&self, picker: &mut Picker) -> Option<&[Letter]> {
+        let count = self.terms.len();
+        if count == 0 {
+            return None;
         }
+        Some(&self.terms[picker.pick(count) % count])
     }
 
-    /// Keeps a term, unless there are enough, or it has holes, or is the first one.
+    /// Returns whether a term is kept.
+    fn has(&self, term: &[Letter]) -> bool {
+        for other in self.terms.as_slice() {
+            if **other == *term {
+                return true;
+            }
+        }
+        false
+    }
+
+    /// Keeps a term, unless there are enough, or it has holes, or it is kept already.
     fn keep(&mut self, term: Vec<Letter>) -> Result<(), AllocError> {
-        let is_first = match self.term(false) {
-            Some(first) => *first == *term,
-            None => false,
-        };
-        if self.terms.len() < MOST_TERMS && is_whole(&term) && !is_first {
+        if self.terms.len() < MOST_TERMS && is_whole(&term) && !self.has(&term) {
             self.terms.push(term)?;
         }
         Ok(())
     }
 }
 
-/// The term for a letter, where that is a hole that can be filled.
-fn term_for(fillings: &[Filling], letter: Letter, is_other: bool) -> Option<&[Letter]> {
+/// Returns a term that fills `letter`, if it is a hole and there is a term.
+fn term_for<'f>(
+    fillings: &'f [Filling],
+    letter: Letter,
+    picker: &mut Picker,
+) -> Option<&'f [Letter]> {
     match letter.meaning {
-        Meaning::Variable(sort) => fillings.get(sort as usize)?.term(is_other),
+        Meaning::Variable(sort) => fillings.get(sort as usize)?.term(picker),
         Meaning::Symbol(_) => None,
     }
 }
 
-/// The constructors that can stand in place of a letter, where that is a hole.
-fn constructors_of(fillings: &[Filling], letter: Letter) -> &[u32] {
+/// Returns the symbols that can fill `letter`, if it is a hole.
+fn symbols_of(fillings: &[Filling], letter: Letter) -> &[u32] {
     match letter.meaning {
         Meaning::Variable(sort) => match fillings.get(sort as usize) {
-            Some(filling) => &filling.constructors,
+            Some(filling) => &filling.symbols,
             None => &[],
         },
         Meaning::Symbol(_) => &[],
     }
 }
 
-/// A term whose holes are filled, all with first terms, or with first and other ones in turn.
-pub(crate) fn fill_holes(
+/// Fills the holes of a term with the terms that are picked.
+fn fill_holes(
     alloc: Global,
     fillings: &[Filling],
     letters: &[Letter],
-    is_mixed: bool,
+    picker: Picker,
 ) -> Result<Vec<Letter>, AllocError> {
     let mut whole = Vec::new(alloc);
-    let mut is_other = false;
+    let mut picker = picker;
     for letter in letters {
         if whole.len() <= MOST_LETTERS {
-            match term_for(fillings, *letter, is_other) {
-                Some(term) => {
-                    whole.extend_from_slice(term)?;
-                    is_other = is_mixed && !is_other;
-                }
+            match term_for(fillings, *letter, &mut picker) {
+                Some(term) => whole.extend_from_slice(term)?,
                 None => whole.push(*letter)?,
             }
         }
@@ -147,27 +195,41 @@ pub(crate) fn fill_holes(
     Ok(whole)
 }
 
-/// The symbols of a specification over holes, and what can stand there.
+/// Returns the number of holes of a term.
+pub(crate) fn count_holes(letters: &[Letter]) -> usize {
+    let mut holes: usize = 0;
+    for letter in letters {
+        if let Meaning::Variable(_) = letter.meaning {
+            holes = holes.saturating_add(1);
+        }
+    }
+    holes
+}
+
+/// The symbols of a specification applied to holes, and the fillings of each sort by the symbols in
+/// reach.
 #[derive(Drop)]
 pub(crate) struct Shapes {
     pub opened: Vec<Vec<Letter>>,
-    pub fillings: Vec<Filling>,
+    fillings: Vec<Filling>,
+    reach: Reach,
 }
 
 impl Shapes {
-    /// Those of a specification.
-    pub(crate) fn of(alloc: Global, asker: &Asker<'_>) -> Result<Self, AllocError>
+    /// Returns the shapes of a specification.
+    pub(crate) fn of(alloc: Global, asker: &Asker<'_>, reach: Reach) -> Result<Self, AllocError>
         requires { IsAsker asker.now }
     {
         let mut shapes = Shapes {
             opened: Vec::new(alloc),
             fillings: Vec::new(alloc),
+            reach,
         };
         shapes.fill(alloc, asker)?;
         Ok(shapes)
     }
 
-    /// All sorts and symbols, and terms of each sort.
+    /// Computes all shapes, and terms of each sort.
     fn fill(&mut self, alloc: Global, asker: &Asker<'_>) -> Result<(), AllocError>
         requires { IsAsker asker.now }
     {
@@ -178,7 +240,7 @@ impl Shapes {
         Ok(())
     }
 
-    /// All sorts and symbols.
+    /// Adds all sorts and symbols.
     fn push_all(&mut self, alloc: Global, asker: &Asker<'_>) -> Result<(), AllocError>
         requires { IsAsker asker.now }
     {
@@ -188,26 +250,36 @@ impl Shapes {
         self.push_symbols(alloc, asker, &sorts)
     }
 
-    /// The constructors of the sort of a hole.
-    pub(crate) fn constructors_for(&self, letters: &[Letter], at: usize) -> &[u32] {
+    /// Fills the holes of a term with the terms that are picked.
+    pub(crate) fn fill_holes(
+        &self,
+        alloc: Global,
+        letters: &[Letter],
+        picker: Picker,
+    ) -> Result<Vec<Letter>, AllocError> {
+        fill_holes(alloc, &self.fillings, letters, picker)
+    }
+
+    /// Returns the symbols of the sort of the hole at index `at`.
+    pub(crate) fn symbols_for(&self, letters: &[Letter], at: usize) -> &[u32] {
         match letters.get(at) {
-            Some(letter) => constructors_of(&self.fillings, *letter),
+            Some(letter) => symbols_of(&self.fillings, *letter),
             None => &[],
         }
     }
 
-    /// So many sorts of which no term is known.
+    /// Adds `count` sorts without terms.
     fn push_sorts(&mut self, alloc: Global, count: usize) -> Result<(), AllocError> {
         for _sort in 0..count {
             self.fillings.push(Filling {
-                constructors: Vec::new(alloc),
+                symbols: Vec::new(alloc),
                 terms: Vec::new(alloc),
             })?;
         }
         Ok(())
     }
 
-    /// All symbols.
+    /// Adds all symbols.
     fn push_symbols(
         &mut self,
         alloc: Global,
@@ -221,57 +293,74 @@ impl Shapes {
             if let Some(declaration) = symbol_numbered(syntax, symbol as usize) {
                 self.opened
                     .push(open_call(alloc, syntax, sorts, symbol, declaration)?)?;
-                if !asker.is_ruled(symbol) {
+                if self.is_in_reach(asker, symbol) {
                     let sort = sort_number(syntax, sorts, declaration.sort);
-                    self.push_constructor(sort, symbol)?;
+                    self.push_symbol(sort, symbol)?;
                 }
             }
         }
         Ok(())
     }
 
-    /// A constructor of a sort.
-    fn push_constructor(&mut self, sort: u32, symbol: u32) -> Result<(), AllocError> {
+    /// Returns whether a symbol fills holes.
+    fn is_in_reach(&self, asker: &Asker<'_>, symbol: u32) -> bool
+        requires { IsAsker asker.now }
+    {
+        match self.reach {
+            Reach::Constructors => symbol < asker.checked.constructors(),
+            Reach::Operators => asker.may_fill(symbol),
+        }
+    }
+
+    /// Adds a symbol of a sort.
+    fn push_symbol(&mut self, sort: u32, symbol: u32) -> Result<(), AllocError> {
         if let Some(filling) = self.fillings.get_mut(sort as usize) {
-            filling.constructors.push(symbol)?;
+            filling.symbols.push(symbol)?;
         }
         Ok(())
     }
 
-    /// How many constructors a sort has.
-    fn count_constructors(&self, sort: usize) -> usize {
+    /// Returns the number of symbols of a sort.
+    fn count_symbols(&self, sort: usize) -> usize {
         match self.fillings.get(sort) {
-            Some(filling) => filling.constructors.len(),
+            Some(filling) => filling.symbols.len(),
             None => 0,
         }
     }
 
-    /// Terms one deeper than before.
+    /// Adds terms that are one level deeper than the last ones.
     fn deepen(&mut self, alloc: Global) -> Result<(), AllocError> {
         for sort in 0..self.fillings.len() {
-            for i in 0..self.count_constructors(sort) {
-                self.grow(alloc, sort, i)?;
+            for i in 0..self.count_symbols(sort) {
+                self.grow(alloc, sort, i, Picker::First)?;
+                self.grow(alloc, sort, i, Picker::Last)?;
             }
         }
         Ok(())
     }
 
-    /// A constructor of a sort over holes, where one more term of the sort is to be kept.
+    /// Returns a symbol of a sort applied to holes, if the sort needs more terms.
     fn wanted_letters(&self, sort: usize, i: usize) -> Option<&[Letter]> {
         let filling = self.fillings.get(sort)?;
         if filling.terms.len() >= MOST_TERMS {
             return None;
         }
-        let symbol = filling.constructors.get(i)?;
+        let symbol = filling.symbols.get(i)?;
         Some(self.opened.get(*symbol as usize)?.as_slice())
     }
 
-    /// A constructor of a sort over terms that are known.
-    fn grow(&mut self, alloc: Global, sort: usize, i: usize) -> Result<(), AllocError> {
+    /// Adds a term of a sort: a symbol applied to known terms.
+    fn grow(
+        &mut self,
+        alloc: Global,
+        sort: usize,
+        i: usize,
+        picker: Picker,
+    ) -> Result<(), AllocError> {
         let Some(open) = self.wanted_letters(sort, i) else {
             return Ok(());
         };
-        let term = fill_holes(alloc, &self.fillings, open, false)?;
+        let term = fill_holes(alloc, &self.fillings, open, picker)?;
         if let Some(filling) = self.fillings.get_mut(sort) {
             filling.keep(term)?;
         }

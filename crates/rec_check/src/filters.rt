@@ -1,4 +1,4 @@
-//! Words that are, or are not, among others.
+//! Filters of words by their names.
 
 ghost use Rattle.std.specs.Prelude.{◌≡◌, ◌++◌, List, IfOk, OnOk};
 ghost use Rattle.rec_syntax.specs.Tokens as syntax;
@@ -7,11 +7,11 @@ ghost use Rattle.rec_sorts.specs.SpecRules.{missing};
 ghost use Rattle.rec_check.specs.Lookups.{IsNoted, Knows, present, where_known};
 ghost use Rattle.rec_check.specs.Named.{as_word, as_words};
 
+use crate::located::Word;
 use crate::names::Names;
-use crate::words::Word;
 use std::alloc::{AllocError, Global};
 
-/// The words whose name is not known.
+/// Returns the words whose names are not known.
 pub fn missing_words<'a>(
     alloc: Global,
     known: &Names<'_>,
@@ -29,7 +29,7 @@ pub fn missing_words<'a>(
     Ok(found)
 }
 
-/// The words whose name is known.
+/// Returns the words whose names are known.
 pub fn present_words<'a>(
     alloc: Global,
     known: &Names<'_>,
@@ -47,7 +47,7 @@ pub fn present_words<'a>(
     Ok(found)
 }
 
-/// The words whose name is that of a word before them.
+/// Returns the words whose name is that of an earlier word.
 pub fn repeated_words<'a>(
     alloc: Global,
     before: &[Word<'a>],
@@ -64,7 +64,7 @@ pub fn repeated_words<'a>(
     Ok(found)
 }
 
-/// A word behind others, where its name is known; it is known from then on.
+/// Appends a word if its name is known, and adds the name.
 fn push_repeated<'a>(
     names: &mut Names<'a>,
     word: Word<'a>,

@@ -1,145 +1,202 @@
-//! What is found in a text.
+//! Findings in a text.
 
-ghost use Rattle.std.specs.Prelude.{◌≡◌, ◌<◌, ◌⊎◌, IfSome, None};
+ghost use Rattle.std.specs.Prelude.{◌≡◌};
+ghost use Rattle.rec_check.specs.Errors.{rule_number};
 ghost use Rattle.rec_check.specs.Findings.{number_of};
-ghost use Rattle.rec_check.specs.Lines.{label_of, rule_label};
+ghost use Rattle.rec_check.specs.Lines.{code_of, is_error, label_of, rule_code, rule_label};
+ghost use Rattle.rec_check.specs.Lines.{severity_of};
 
-use crate::spots::Spot;
-
-/// A rule of specifications.
+/// A well-formedness rule of specifications, S1 to S11.
 #[derive(Clone, Copy, Debug, Drop, PartialEq, Eq)]
 pub enum Rule {
-    /// 1: a sort is declared twice.
+    /// S1: duplicate sort.
     SortTwice,
-    /// 2: a symbol is declared twice.
+    /// S2: duplicate symbol.
     SymbolTwice,
-    /// 3: a variable is declared twice, or has a symbol's name.
+    /// S3: duplicate variable, or variable with the name of a symbol.
     VariableTaken,
-    /// 4: a sort is not declared.
+    /// S4: undeclared sort.
     SortUnknown,
-    /// 5: a word of a term is neither a symbol nor a variable.
+    /// S5: undeclared symbol or variable.
     WordUnknown,
-    /// 6: a word has another number of arguments than declared.
+    /// S6: wrong number of arguments.
     IllFilled,
-    /// 7: an argument has another sort than declared.
+    /// S7: argument of the wrong sort.
     IllSorted,
-    /// 8: a left side begins with no operator.
+    /// S8: a left-hand side that does not start with an operator.
     IllHeaded,
-    /// 9: the sides of a rule or of a condition have different sorts.
+    /// S9: two sides of a rule or of a condition with different sorts.
     UnlikeSides,
-    /// 10: a variable is not in its rule's left side.
+    /// S10: a variable that is not in the left-hand side of its rule.
     Unbound,
-    /// 11: a variable occurs in a term to evaluate.
+    /// S11: a variable in an EVAL term.
     OpenTerm,
 }
 
 impl Rule {
-    /// The rule of a number from 1.
-    pub(crate) fn of_number(number: u8) -> Option<Rule>
-        ensures some { IfSome result (λ r. number_of r ≡ number) }
-        ensures none { result ≡ None → (number ≡ 0) ⊎ (11 < number) }
+    /// Returns the number of the rule, from 1 to 11.
+    fn number(self) -> u8
+        ensures { result ≡ number_of self }
     {
-        Some(match number {
-            1 => Rule::SortTwice,
-            2 => Rule::SymbolTwice,
-            3 => Rule::VariableTaken,
-            4 => Rule::SortUnknown,
-            5 => Rule::WordUnknown,
-            6 => Rule::IllFilled,
-            7 => Rule::IllSorted,
-            8 => Rule::IllHeaded,
-            9 => Rule::UnlikeSides,
-            10 => Rule::Unbound,
-            11 => Rule::OpenTerm,
-            _ => return None,
-        })
+        match self {
+            Rule::SortTwice => 1,
+            Rule::SymbolTwice => 2,
+            Rule::VariableTaken => 3,
+            Rule::SortUnknown => 4,
+            Rule::WordUnknown => 5,
+            Rule::IllFilled => 6,
+            Rule::IllSorted => 7,
+            Rule::IllHeaded => 8,
+            Rule::UnlikeSides => 9,
+            Rule::Unbound => 10,
+            Rule::OpenTerm => 11,
+        }
     }
 
-    /// Its short name, and what is wrong where it is broken.
+    /// Returns the error code.
+    fn code(self) -> &'static [u8]
+        ensures { result.now ≡ rule_code self }
+    {
+        match self {
+            Rule::SortTwice => b"S1",
+            Rule::SymbolTwice => b"S2",
+            Rule::VariableTaken => b"S3",
+            Rule::SortUnknown => b"S4",
+            Rule::WordUnknown => b"S5",
+            Rule::IllFilled => b"S6",
+            Rule::IllSorted => b"S7",
+            Rule::IllHeaded => b"S8",
+            Rule::UnlikeSides => b"S9",
+            Rule::Unbound => b"S10",
+            Rule::OpenTerm => b"S11",
+        }
+    }
+
+    /// Returns the description of a violation.
     fn label(self) -> &'static [u8]
         ensures { result.now ≡ rule_label self }
     {
         match self {
-            Rule::SortTwice => b"S1: a sort is declared twice",
-            Rule::SymbolTwice => b"S2: a symbol is declared twice",
-            Rule::VariableTaken => { b"S3: a variable is declared twice, or has a symbol's name" }
-            Rule::SortUnknown => b"S4: a sort is not declared",
-            Rule::WordUnknown => b"S5: a word is neither a symbol nor a variable",
-            Rule::IllFilled => b"S6: another number of arguments than declared",
-            Rule::IllSorted => b"S7: an argument of another sort than declared",
-            Rule::IllHeaded => b"S8: a left side begins with no operator",
-            Rule::UnlikeSides => b"S9: two sides have different sorts",
-            Rule::Unbound => b"S10: a variable is not in the left side",
-            Rule::OpenTerm => b"S11: a variable in a term of EVAL",
+            Rule::SortTwice => b"duplicate sort",
+            Rule::SymbolTwice => b"duplicate symbol in CONS and OPNS, even with other sorts",
+            Rule::VariableTaken => b"duplicate variable, or variable with the name of a symbol",
+            Rule::SortUnknown => b"undeclared sort in CONS, OPNS or VARS",
+            Rule::WordUnknown => b"undeclared symbol or variable in RULES or EVAL",
+            Rule::IllFilled => b"wrong number of arguments of a symbol, or arguments of a variable",
+            Rule::IllSorted => b"argument of the wrong sort",
+            Rule::IllHeaded =>
+                b"left-hand side that does not start with an operator (a symbol of OPNS)",
+            Rule::UnlikeSides => b"rule or condition whose two sides have different sorts",
+            Rule::Unbound => b"variable that is not in the left-hand side of its rule",
+            Rule::OpenTerm => b"variable in an EVAL term",
         }
     }
 }
 
-/// What is wrong, or likely to be.
+/// The kind of a finding: an error or a warning.
 #[derive(Clone, Copy, Debug, Drop, PartialEq, Eq)]
 pub enum Kind {
-    /// The text is too long.
+    /// Error L1: the text is too long.
     TooLong,
-    /// The text leaves the grammar.
+    /// Error G: syntax error.
     Outside,
-    /// A rule is broken.
+    /// A violated rule.
     Broken(Rule),
-    /// An earlier rule without conditions matches all that a rule does.
+    /// Warning W1: unreachable rule, since an earlier rule without conditions matches every term
+    /// that this rule matches.
     NeverTried,
-    /// An argument of a left side is rewritten before that could match.
+    /// Warning W2: rule that cannot match, since an argument of its left-hand side is rewritten
+    /// first.
     NeverMatches,
-    /// No rule's left side matches a call of an operator.
+    /// Warning W3: a call that no left-hand side matches.
     NotCovered,
-    /// No symbol and no variable has a sort.
+    /// Warning W4: unused sort.
     UnusedSort,
-    /// A symbol stands in no rule and in no term.
+    /// Warning W4: unused symbol.
     UnusedSymbol,
-    /// A variable stands in no rule.
+    /// Warning W4: unused variable.
     UnusedVariable,
+    /// Warning W5: used operator without rules.
+    WithoutRules,
 }
 
 impl Kind {
-    /// Its short name, and what is wrong.
-    pub(crate) fn label(self) -> &'static [u8]
+    /// Returns the number of the violated rule; 0 if it is no violation.
+    pub(crate) fn rule_number(self) -> u8
+        ensures { result ≡ rule_number self }
+    {
+        match self {
+            Kind::Broken(rule) => rule.number(),
+            _ => 0,
+        }
+    }
+
+    /// Returns whether it is an error. Other kinds are warnings.
+    pub fn is_error(self) -> bool
+        ensures { result ≡ is_error self }
+    {
+        match self {
+            Kind::TooLong | Kind::Outside | Kind::Broken(_) => true,
+            _ => false,
+        }
+    }
+
+    /// Returns `error` or `warning` with the colon and the space after it in a line.
+    pub(crate) fn severity(self) -> &'static [u8]
+        ensures { result.now ≡ severity_of self }
+    {
+        if self.is_error() {
+            b"error: "
+        } else {
+            b"warning: "
+        }
+    }
+
+    /// Returns the code, as `S5` or `W3`.
+    pub fn code(self) -> &'static [u8]
+        ensures { result.now ≡ code_of self }
+    {
+        match self {
+            Kind::TooLong => b"L1",
+            Kind::Outside => b"G",
+            Kind::Broken(rule) => rule.code(),
+            Kind::NeverTried => b"W1",
+            Kind::NeverMatches => b"W2",
+            Kind::NotCovered => b"W3",
+            Kind::UnusedSort | Kind::UnusedSymbol | Kind::UnusedVariable => b"W4",
+            Kind::WithoutRules => b"W5",
+        }
+    }
+
+    /// Returns the description, without the detail.
+    pub fn label(self) -> &'static [u8]
         ensures { result.now ≡ label_of self }
     {
         match self {
-            Kind::TooLong => b"L1: the text has more than 16777216 bytes",
-            Kind::Outside => b"G: no specification has this here",
+            Kind::TooLong => b"the text has more than 16777216 bytes",
+            Kind::Outside => b"syntax error in the specification",
             Kind::Broken(rule) => rule.label(),
             Kind::NeverTried => {
-                b"W1: never tried: an earlier rule without conditions matches all that this one does"
+                b"unreachable rule: an earlier rule without conditions matches all that it matches"
             }
-            Kind::NeverMatches => b"W2: never matches: an argument like this is rewritten first",
-            Kind::NotCovered => b"W3: not covered: no rule matches this call",
-            Kind::UnusedSort => b"W4: never used: no symbol and no variable has this sort",
-            Kind::UnusedSymbol => b"W4: never used: a symbol of no rule and of no term",
-            Kind::UnusedVariable => b"W4: never used: a variable of no rule",
+            Kind::NeverMatches => b"rule cannot match: this argument is rewritten first",
+            Kind::NotCovered => b"missing case: no left-hand side matches this call",
+            Kind::UnusedSort => b"unused sort",
+            Kind::UnusedSymbol => b"unused symbol",
+            Kind::UnusedVariable => b"unused variable",
+            Kind::WithoutRules => b"operator without rules: each call of it is stuck",
         }
     }
 }
 
-/// What is shown of a finding: bytes, or a place of the text.
-#[derive(Clone, Copy, Drop)]
-pub enum Shown<'a> {
-    Bytes(&'a [u8]),
-    Place(Spot),
-}
-
-/// What is found at a place of a text: so many bytes stand before it.
-#[derive(Clone, Copy, Drop)]
-pub struct Finding<'a> {
-    pub at: usize,
-    /// What is shown of it.
-    pub shown: Shown<'a>,
-    pub kind: Kind,
-}
-
-/// A call that no rule's left side matches.
+/// One error or warning in a text.
 #[derive(Drop)]
-pub struct Example {
-    /// Where its operator is declared: so many bytes of the text stand before it.
+pub struct Diagnostic {
+    /// The offset of the word that it is about; 0 if the text is too long.
     pub at: usize,
-    /// The call as it is printed.
-    pub text: Vec<u8>,
+    /// The offset after that word; `at` if it is about no word.
+    pub end: usize,
+    pub kind: Kind,
+    /// The detail after the description.
+    pub shown: Vec<u8>,
 }

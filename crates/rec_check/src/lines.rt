@@ -1,18 +1,19 @@
-//! The lines of what is found.
+//! The lines of diagnostics.
 
-ghost use Rattle.std.specs.Prelude.{◌++◌, OnErr, OnOk};
-ghost use Rattle.rx_text.specs.Output.{
-  IsSameOutput,
-  IsWritable,
-  TellsRefusal,
-  Writes,
-  WritesFront,
+ghost use Rattle.std.specs.Prelude.{◌++◌, codes, OnErr, OnOk};
+ghost use Rattle.rx_text.specs.Output.{ReportsRefusal, Writes, WritesFront};
+ghost use Rattle.rec_check.specs.Findings.{as_diagnostic, as_diagnostics};
+ghost use Rattle.rec_check.specs.Lines.{
+  code_of,
+  label_of,
+  line_at,
+  lines_of,
+  severity_of,
+  shown_text,
+  spot_text,
 };
-ghost use Rattle.rec_check.specs.Findings.{as_findings, as_found, bytes_shown};
-ghost use Rattle.rec_check.specs.Lines.{line_at, lines_of, shown_text, spot_text};
-ghost use Rattle.rec_check.specs.Spots.{spot_shown};
 
-use crate::finding::{Finding, Shown};
+use crate::finding::{Diagnostic, Kind};
 use crate::spots::{Cursor, Spot};
 use rx_run::put_numbered_to;
 use rx_text::{Output, RefusedWrite};
@@ -20,11 +21,9 @@ use std::io::Write;
 
 /// Writes a line and a column.
 fn write_spot<W: Write>(spot: Spot, out: &mut Output<'_, W>) -> Result<(), RefusedWrite>
-    requires { IsWritable out.old }
     ensures ok { OnOk result (Writes W.contents out.old out.new (spot_text spot)) }
     ensures err { OnErr result (WritesFront W.contents out.old out.new (spot_text spot)) }
-    ensures same { IsSameOutput out.old out.new }
-    ensures cause { TellsRefusal out.new result }
+    ensures reports { ReportsRefusal out.old out.new result }
 {
     put_numbered_to(out, b":", spot.line)?;
     put_numbered_to(out, b":", spot.column)?;
@@ -32,13 +31,11 @@ fn write_spot<W: Write>(spot: Spot, out: &mut Output<'_, W>) -> Result<(), Refus
     Ok(())
 }
 
-/// Writes bytes that are shown behind a label.
-fn write_bytes<W: Write>(shown: &[u8], out: &mut Output<'_, W>) -> Result<(), RefusedWrite>
-    requires { IsWritable out.old }
+/// Writes the detail that follows a description.
+fn write_shown<W: Write>(shown: &[u8], out: &mut Output<'_, W>) -> Result<(), RefusedWrite>
     ensures ok { OnOk result (Writes W.contents out.old out.new (shown_text shown.now)) }
     ensures err { OnErr result (WritesFront W.contents out.old out.new (shown_text shown.now)) }
-    ensures same { IsSameOutput out.old out.new }
-    ensures cause { TellsRefusal out.new result }
+    ensures reports { ReportsRefusal out.old out.new result }
 {
     if shown.len() == 0 {
         return Ok(());
@@ -48,79 +45,71 @@ fn write_bytes<W: Write>(shown: &[u8], out: &mut Output<'_, W>) -> Result<(), Re
     Ok(())
 }
 
-/// Writes a place that is shown behind a label.
-fn write_place<W: Write>(spot: Spot, out: &mut Output<'_, W>) -> Result<(), RefusedWrite>
-    requires { IsWritable out.old }
-    ensures ok { OnOk result
-        (Writes W.contents out.old out.new (shown_text (spot_shown spot))) }
-    ensures err { OnErr result
-        (WritesFront W.contents out.old out.new (shown_text (spot_shown spot))) }
-    ensures same { IsSameOutput out.old out.new }
-    ensures cause { TellsRefusal out.new result }
+/// Writes the code of a diagnostic in brackets, and ends its line.
+fn write_code<W: Write>(kind: Kind, out: &mut Output<'_, W>) -> Result<(), RefusedWrite>
+    ensures ok { OnOk result (Writes W.contents out.old out.new
+        (codes " [" ++ code_of kind ++ codes "]\n")) }
+    ensures err { OnErr result (WritesFront W.contents out.old out.new
+        (codes " [" ++ code_of kind ++ codes "]\n")) }
+    ensures reports { ReportsRefusal out.old out.new result }
 {
-    put_numbered_to(out, b": ", spot.line)?;
-    put_numbered_to(out, b":", spot.column)?;
+    out.put(b" [")?;
+    out.put(kind.code())?;
+    out.put(b"]\n")?;
     Ok(())
 }
 
-/// Writes what is shown behind a label.
-fn write_shown<W: Write>(shown: Shown<'_>, out: &mut Output<'_, W>) -> Result<(), RefusedWrite>
-    requires { IsWritable out.old }
-    ensures ok { OnOk result
-        (Writes W.contents out.old out.new (shown_text (bytes_shown shown.entry))) }
-    ensures err { OnErr result
-        (WritesFront W.contents out.old out.new (shown_text (bytes_shown shown.entry))) }
-    ensures same { IsSameOutput out.old out.new }
-    ensures cause { TellsRefusal out.new result }
+/// Writes the severity and the description of a diagnostic.
+fn write_label<W: Write>(kind: Kind, out: &mut Output<'_, W>) -> Result<(), RefusedWrite>
+    ensures ok { OnOk result (Writes W.contents out.old out.new
+        (severity_of kind ++ label_of kind)) }
+    ensures err { OnErr result (WritesFront W.contents out.old out.new
+        (severity_of kind ++ label_of kind)) }
+    ensures reports { ReportsRefusal out.old out.new result }
 {
-    match shown {
-        Shown::Bytes(bytes) => write_bytes(bytes, out),
-        Shown::Place(spot) => write_place(spot, out),
-    }
+    out.put(kind.severity())?;
+    out.put(kind.label())?;
+    Ok(())
 }
 
-/// Writes the line of what is found at a spot of the text of this name.
-fn write_finding<W: Write>(
+/// Writes the line of a diagnostic at this location of the text called `name`.
+fn write_diagnostic<W: Write>(
     name: &[u8],
     spot: Spot,
-    finding: &Finding,
+    diagnostic: &Diagnostic,
     out: &mut Output<'_, W>,
 ) -> Result<(), RefusedWrite>
-    requires { IsWritable out.old }
-    ensures ok { OnOk result
-        (Writes W.contents out.old out.new (line_at name.now spot (as_found finding.now))) }
-    ensures err { OnErr result
-        (WritesFront W.contents out.old out.new (line_at name.now spot (as_found finding.now))) }
-    ensures same { IsSameOutput out.old out.new }
-    ensures cause { TellsRefusal out.new result }
+    ensures ok { OnOk result (Writes W.contents out.old out.new
+        (line_at name.now spot (as_diagnostic diagnostic.now))) }
+    ensures err { OnErr result (WritesFront W.contents out.old out.new
+        (line_at name.now spot (as_diagnostic diagnostic.now))) }
+    ensures reports { ReportsRefusal out.old out.new result }
 {
     out.put(name)?;
     write_spot(spot, out)?;
-    out.put(finding.kind.label())?;
-    write_shown(finding.shown, out)?;
-    out.put(b"\n")?;
+    write_label(diagnostic.kind, out)?;
+    write_shown(&diagnostic.shown, out)?;
+    write_code(diagnostic.kind, out)?;
     Ok(())
 }
 
-/// Writes the lines of what is found in the text of this name.
-pub fn write_findings<W: Write>(
+/// Writes the lines of diagnostics in the text called `name`.
+pub(crate) fn write_diagnostics<W: Write>(
     name: &[u8],
     text: &[u8],
-    findings: &[Finding],
+    diagnostics: &[Diagnostic],
     out: &mut Output<'_, W>,
 ) -> Result<(), RefusedWrite>
-    requires { IsWritable out.old }
     ensures ok { OnOk result (Writes W.contents out.old out.new
-        (lines_of name.now text.now (as_findings findings.now))) }
+        (lines_of name.now text.now (as_diagnostics diagnostics.now))) }
     ensures err { OnErr result (WritesFront W.contents out.old out.new
-        (lines_of name.now text.now (as_findings findings.now))) }
-    ensures same { IsSameOutput out.old out.new }
-    ensures cause { TellsRefusal out.new result }
+        (lines_of name.now text.now (as_diagnostics diagnostics.now))) }
+    ensures reports { ReportsRefusal out.old out.new result }
 {
     let mut cursor = Cursor::new(text);
-    for finding in findings {
-        let spot = cursor.spot(finding.at);
-        write_finding(name, spot, finding, out)?;
+    for diagnostic in diagnostics {
+        let spot = cursor.spot(diagnostic.at);
+        write_diagnostic(name, spot, diagnostic, out)?;
     }
     Ok(())
 }

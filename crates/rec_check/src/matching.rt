@@ -1,4 +1,4 @@
-//! Which left sides match a term whose variables are read as constants.
+//! Matching of left-hand sides against terms whose variables are read as constants.
 
 ghost use Rattle.std.specs.Prelude.{
   ◌≡◌,
@@ -35,35 +35,36 @@ use indexmap::IndexMap;
 use rec_sorts::{Letter, Meaning};
 use std::alloc::{AllocError, Global};
 
-/// The values of a left side's variables, by their numbers: the letters of parts of a term.
+/// The values of a left-hand side's variables, by their numbers. A value is a subterm in postfix
+/// form.
 #[derive(Drop)]
 pub(crate) struct Values<'a> {
     of: IndexMap<u32, &'a [Letter]>,
 }
 
 impl<'a> Values<'a> {
-    /// No variable has a value.
+    /// Returns an empty substitution.
     pub(crate) fn new(alloc: Global) -> Self {
         Values {
             of: IndexMap::new(alloc),
         }
     }
 
-    /// No variable has a value any more.
+    /// Removes all values.
     fn clear(&mut self)
         ensures { (variable : _) → value_in self.new variable ≡ None }
     {
         self.of.clear();
     }
 
-    /// The value of a variable.
+    /// Returns the value of a variable.
     fn value(&self, variable: u32) -> Option<&'a [Letter]>
         ensures { option_map (λ p. p.now) result ≡ value_in self.now variable }
     {
         self.of.get(&variable).copied()
     }
 
-    /// Gives a value to a variable.
+    /// Sets the value of a variable.
     fn give(&mut self, variable: u32, part: &'a [Letter]) -> Result<(), AllocError>
         ensures { OnOk result (IsGiven self.old self.new variable part.entry.now) }
     {
@@ -71,7 +72,8 @@ impl<'a> Values<'a> {
         Ok(())
     }
 
-    /// A variable gets a value, or has it already.
+    /// Binds a variable, or compares a value with the one that it has. Returns false if they
+    /// differ.
     fn bind(&mut self, variable: u32, part: &'a [Letter]) -> Result<bool, AllocError>
         ensures { IfOk result (Binds variable part.entry.now self.old self.new) }
     {
@@ -85,7 +87,7 @@ impl<'a> Values<'a> {
     }
 }
 
-/// Whether two letters are the same.
+/// Returns whether two postfix items are the same.
 fn same_letter(left: Letter, right: Letter) -> bool
     ensures same { result ≡ true → left ≡ right }
     ensures other { result ≡ false → left ≡ right → ⊥ }
@@ -93,7 +95,7 @@ fn same_letter(left: Letter, right: Letter) -> bool
     left == right
 }
 
-/// Whether two terms have the same letters.
+/// Returns whether two terms have the same postfix items.
 fn same_letters(left: &[Letter], right: &[Letter]) -> bool
     ensures same { result ≡ true → left.now ≡ right.now }
     ensures other { result ≡ false → left.now ≡ right.now → ⊥ }
@@ -109,7 +111,7 @@ fn same_letters(left: &[Letter], right: &[Letter]) -> bool
     true
 }
 
-/// The letters of some terms, and for each letter how many letters the term that ends there has.
+/// Terms in postfix form, and for each item the number of items of the subterm that ends with it.
 #[derive(Clone, Copy, Drop)]
 pub(crate) struct Terms<'t, 's> {
     pub letters: &'t [Letter],
@@ -117,7 +119,7 @@ pub(crate) struct Terms<'t, 's> {
 }
 
 impl<'t, 's> Terms<'t, 's> {
-    /// How many letters stand before those of the last term.
+    /// Returns the number of items before the last term.
     pub(crate) fn before_last(self) -> usize
         requires { AreSizes self.letters.now self.sizes.now }
         ensures within { result ≤ length self.entry.letters.now }
@@ -130,7 +132,7 @@ impl<'t, 's> Terms<'t, 's> {
         }
     }
 
-    /// The first ones of these letters, and those behind them.
+    /// Splits the items, with their sizes.
     pub(crate) fn split_at(self, at: usize) -> (Terms<'t, 's>, Terms<'t, 's>)
         requires sizes { AreSizes self.letters.now self.sizes.now }
         requires within { at ≤ length self.letters.now }
@@ -149,7 +151,8 @@ impl<'t, 's> Terms<'t, 's> {
     }
 }
 
-/// How many letters the last term has, by the sizes of those that end before its last letter.
+/// Returns the size of the last term. `sizes` has the sizes of the subterms that end before its
+/// last item.
 fn size_of_last(letters: &[Letter], sizes: &[usize]) -> usize
     requires some { 0 < length letters.now }
     requires sizes { AreSizes (take (length letters.now - 1) letters.now) sizes.now }
@@ -165,7 +168,7 @@ fn size_of_last(letters: &[Letter], sizes: &[usize]) -> usize
     letters.len() - at
 }
 
-/// For each letter of a term how many letters the term that ends there has.
+/// Returns, for each item of a term, the size of the subterm that ends with it.
 pub(crate) fn sizes(alloc: Global, letters: &[Letter]) -> Result<Vec<usize>, AllocError>
     ensures { IfOk result (λ v. AreSizes letters.now v.items) }
 {
@@ -177,7 +180,8 @@ pub(crate) fn sizes(alloc: Global, letters: &[Letter]) -> Result<Vec<usize>, All
     Ok(sizes)
 }
 
-/// Asks a letter of a left side of the last one of some terms: what is to be asked next.
+/// Matches one item of a left-hand side against the last of these terms. Returns the terms that
+/// remain to be matched, or `None` if it does not match.
 fn ask<'t, 's>(
     letter: Letter,
     terms: Terms<'t, 's>,
@@ -204,7 +208,7 @@ fn ask<'t, 's>(
     }
 }
 
-/// Asks the letters of a left side of a term, from the last to the first.
+/// Matches the items of a left-hand side against a term, from the last to the first.
 fn all_match<'t>(
     left: &[Letter],
     term: Terms<'t, '_>,
@@ -226,8 +230,8 @@ fn all_match<'t>(
     Ok(true)
 }
 
-/// Whether a rule's left side matches a term, whose variables are constants. None matches a term of
-/// fewer letters.
+/// Returns whether a left-hand side matches a term, whose variables are read as constants. No
+/// left-hand side matches a term with fewer items.
 pub(crate) fn matches<'t>(
     left: &[Letter],
     term: Terms<'t, '_>,

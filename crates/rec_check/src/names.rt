@@ -1,4 +1,4 @@
-//! Names by their numbers.
+//! Numbers of names.
 
 ghost use Rattle.std.specs.Prelude.{◌≡◌, ◌∷◌, [], ℕ, List, None, IfOk, OnOk, bytes_eq, is_some};
 ghost use Rattle.std.specs.Cmp.{on_per, on_equiv, partial_equiv_from_equiv};
@@ -8,12 +8,12 @@ ghost use Rattle.rec_sorts.specs.Names.{first_at, given_first};
 ghost use Rattle.rec_check.specs.Lookups.{IsGiven, Knows, number_in};
 ghost use Rattle.rec_check.specs.Named.{as_words};
 
-use crate::words::Word;
+use crate::located::Word;
 use indexmap::IndexMap;
 use std::alloc::{AllocError, Global};
 use std::hash::{Hash, Hasher};
 
-/// A name as a key: its bytes are hashed in one call.
+/// A name as a hash key. Its bytes are hashed in one call.
 #[derive(Clone, Copy, Drop)]
 pub struct Key<'a> {
     bytes: &'a [u8],
@@ -51,7 +51,7 @@ pub struct Names<'a> {
 }
 
 impl<'a> Names<'a> {
-    /// No name has a number; there is room for so many.
+    /// Returns an empty map with room for `count` names.
     pub(crate) fn with_capacity(alloc: Global, count: usize) -> Result<Self, AllocError>
         ensures { IfOk result (λ names. (name : List ℕ) → number_in names name ≡ None) }
     {
@@ -59,7 +59,7 @@ impl<'a> Names<'a> {
         Ok(Names { numbers })
     }
 
-    /// The numbers of words, which count from 0.
+    /// Numbers the names of these words, from 0.
     pub fn of(alloc: Global, words: &[Word<'a>]) -> Result<Self, AllocError>
         ensures numbers { IfOk result (λ names. (name : List ℕ)
             → number_in names name ≡ first_at (as_words words.now) name) }
@@ -72,21 +72,21 @@ impl<'a> Names<'a> {
         Ok(names)
     }
 
-    /// The number of a name.
+    /// Returns the number of a name.
     pub fn number(&self, name: &[u8]) -> Option<usize>
         ensures { result ≡ number_in self.now name.now }
     {
         self.numbers.get(&Key { bytes: name }).copied()
     }
 
-    /// Whether a name has a number.
+    /// Returns whether a name has a number.
     pub fn has(&self, name: &[u8]) -> bool
         ensures { result ≡ is_some (number_in self.now name.now) }
     {
         self.number(name).is_some()
     }
 
-    /// Gives a number to a name, unless it has one.
+    /// Sets the number of a name, unless it has one.
     pub(crate) fn note(&mut self, name: &'a [u8], number: usize) -> Result<(), AllocError>
         ensures { OnOk result ((other : List ℕ) → number_in self.new other
             ≡ given_first (number_in self.old) name.entry.now number other) }
@@ -98,7 +98,7 @@ impl<'a> Names<'a> {
         }
     }
 
-    /// Gives a number to a name.
+    /// Sets the number of a name.
     fn give(&mut self, name: &'a [u8], number: usize) -> Result<(), AllocError>
         ensures { OnOk result (IsGiven self.old self.new name.entry.now number) }
     {

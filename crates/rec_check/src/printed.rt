@@ -1,4 +1,4 @@
-//! Names as they are printed.
+//! Printed names.
 
 ghost use Rattle.std.specs.Prelude.{◌≡◌, ◌++◌, OnOk, not, true};
 ghost use Rattle.rx_term.specs.Name.{plain_name};
@@ -7,7 +7,7 @@ ghost use Rattle.rx_text.specs.Canon.{name_text, octal_text, quoted_byte};
 use rx_term::plain_name;
 use std::alloc::AllocError;
 
-/// A backslash and three octal digits behind a text.
+/// Appends a backslash and three octal digits.
 fn push_octal(byte: u8, text: &mut Vec<u8>) -> Result<(), AllocError>
     ensures { OnOk result (text.new.items ≡ text.old.items ++ octal_text byte) }
 {
@@ -20,7 +20,7 @@ fn push_octal(byte: u8, text: &mut Vec<u8>) -> Result<(), AllocError>
     text.extend_from_slice(&digits)
 }
 
-/// One byte of a quoted name behind a text.
+/// Appends one byte of a quoted name.
 fn push_quoted_byte(byte: u8, text: &mut Vec<u8>) -> Result<(), AllocError>
     ensures { OnOk result (text.new.items ≡ text.old.items ++ quoted_byte byte) }
 {
@@ -39,7 +39,7 @@ fn push_quoted_byte(byte: u8, text: &mut Vec<u8>) -> Result<(), AllocError>
     }
 }
 
-/// A name between quotes behind a text.
+/// Appends a name in quotes.
 fn push_quoted(name: &[u8], text: &mut Vec<u8>) -> Result<(), AllocError>
     ensures { OnOk result (text.new.items ≡ text.old.items ++ name_text name.now true) }
 {
@@ -51,7 +51,7 @@ fn push_quoted(name: &[u8], text: &mut Vec<u8>) -> Result<(), AllocError>
     Ok(())
 }
 
-/// A name as it is printed behind a text: between quotes, unless it may stand without them.
+/// Appends a name as it is printed: in quotes, unless it is a plain name.
 pub(crate) fn push_name(name: &[u8], text: &mut Vec<u8>) -> Result<(), AllocError>
     ensures { OnOk result (text.new.items
         ≡ text.old.items ++ name_text name.now (not (plain_name name.now))) }

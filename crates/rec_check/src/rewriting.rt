@@ -1,5 +1,6 @@
-//! Which rules without conditions rewrite a term whose variables are read as constants.
+//! The rules without conditions that rewrite a term whose variables are read as constants.
 
+mod classes;
 mod pushing;
 
 ghost use Rattle.std.specs.Prelude.{◌≡◌, ◌++◌, ◌<◌, ◌≤◌, All, IfOk, IfSome, List, Option, false};
@@ -32,22 +33,27 @@ ghost use Rattle.rec_check.specs.Uncovered.{IsUnmatched};
 ghost use Rattle.rec_check.specs.Inner.Trials.{AreSizes};
 
 use crate::broken::head_of;
+use crate::located::Word;
 use crate::matching::{Terms, Values, matches, sizes};
+use crate::rewriting::classes::rule_classes;
 use crate::spots::{Cursor, Spot};
-use crate::words::{Word, node_words, push_term};
+use crate::words::{node_words, push_term};
 use rec_sorts::{Checked, Letter, LetterRule, Meaning};
 use rec_syntax::Syntax;
 use std::alloc::{AllocError, Global};
 
-/// The first rule of each symbol, and for each rule the next one of the same symbol; the number of
-/// rules stands for none.
+/// The largest size of a term, in postfix items, for which rules are found by their classes.
+const MOST_ITEMS: usize = 256;
+
+/// The first rule of each symbol or class, and for each rule the next one of the same symbol or
+/// class. The number of rules means that there is none.
 #[derive(Drop)]
 struct Chains {
     firsts: Vec<usize>,
     nexts: Vec<usize>,
 }
 
-/// The chains of rules whose symbols these are, of so many symbols.
+/// Returns the chains of rules with these symbols; `count` is the number of symbols.
 fn chain(alloc: Global, heads: &[u32], count: usize) -> Result<Chains, AllocError>
     requires { All (λ k. k < count) heads.now }
     ensures { IfOk result (λ c. AreChainsFrom heads.now count 0 c.firsts.items c.nexts.items) }
@@ -65,7 +71,7 @@ fn chain(alloc: Global, heads: &[u32], count: usize) -> Result<Chains, AllocErro
     Ok(Chains { firsts, nexts })
 }
 
-/// The letters of a rule.
+/// Returns a rule in postfix form.
 fn letters<'a>(checked: &'a Checked, rule: usize) -> &'a LetterRule
     requires { rule < length checked.now.spec.rules }
     ensures { (r : _)
@@ -77,7 +83,7 @@ fn letters<'a>(checked: &'a Checked, rule: usize) -> &'a LetterRule
     }
 }
 
-/// The number of the symbol with which a left side begins.
+/// Returns the number of the symbol of a rule's left-hand side.
 fn head_symbol(checked: &Checked, rule: usize) -> u32
     requires { rule < length checked.now.spec.rules }
     ensures { (r : _) → IsHead checked.now.spec (get_or checked.now.spec.rules rule r) result }
@@ -92,7 +98,7 @@ fn head_symbol(checked: &Checked, rule: usize) -> u32
     }
 }
 
-/// The numbers of the symbols with which the left sides begin.
+/// Returns the numbers of the symbols of all left-hand sides.
 fn head_symbols(alloc: Global, checked: &Checked) -> Result<Vec<u32>, AllocError>
     ensures { IfOk result (λ v. AreHeads checked.now.spec v.items) }
 {
@@ -103,7 +109,7 @@ fn head_symbols(alloc: Global, checked: &Checked) -> Result<Vec<u32>, AllocError
     Ok(heads)
 }
 
-/// The first words of the arguments of a left side, at any depth, each behind those inside it.
+/// Returns the first words of the arguments of a left-hand side, at any depth, in postorder.
 fn inner_words<'a>(
     alloc: Global,
     syntax: &'a Syntax,
@@ -122,7 +128,7 @@ fn inner_words<'a>(
     node_words(alloc, &nodes)
 }
 
-/// Where the left sides begin.
+/// Returns the locations of the left-hand sides.
 fn left_spots(alloc: Global, syntax: &Syntax) -> Result<Vec<Spot>, AllocError>
     ensures { IfOk result (λ v. v.items
         ≡ map (λ r. spot_of syntax.now.source (head r.left).at) syntax.now.spec.rules) }
@@ -135,32 +141,40 @@ fn left_spots(alloc: Global, syntax: &Syntax) -> Result<Vec<Spot>, AllocError>
     Ok(spots)
 }
 
-/// The rules of a specification by the symbols with which their left sides begin.
+/// The rules of a specification, by the symbols of their left-hand sides.
 #[derive(Drop)]
 pub(crate) struct Rewriter<'a> {
     checked: &'a Checked,
     chains: Chains,
-    /// Where the left side of each rule begins.
+    /// The class of each rule.
+    classes: Vec<u32>,
+    /// The rules by their classes.
+    by_class: Chains,
+    /// The location of each left-hand side.
     spots: Vec<Spot>,
 }
 
 impl<'a> Rewriter<'a> {
-    /// The rules of a specification.
+    /// Returns the rewriter of a specification.
     pub(crate) fn of(alloc: Global, checked: &'a Checked) -> Result<Self, AllocError>
         ensures rules { IfOk result IsRewriter }
         ensures same { IfOk result (λ r. r.checked.now ≡ checked.now) }
     {
         let heads = head_symbols(alloc, checked)?;
         let chains = chain(alloc, &heads, checked.symbols() as usize)?;
+        let classes = rule_classes(alloc, checked)?;
+        let by_class = chain(alloc, &classes, checked.symbols() as usize + 1)?;
         let spots = left_spots(alloc, checked.syntax())?;
         Ok(Rewriter {
             checked,
             chains,
+            classes,
+            by_class,
             spots,
         })
     }
 
-    /// Whether a rule has no conditions and its left side matches a term.
+    /// Returns whether a rule has no conditions and its left-hand side matches a term.
     fn rewrites<'t>(
         &self,
         rule: usize,
@@ -183,7 +197,7 @@ impl<'a> Rewriter<'a> {
         }
     }
 
-    /// The first rule that rewrites a term of a symbol, before a rule.
+    /// Returns the first rule of a symbol, among those below `before`, that rewrites a term.
     fn rewriting_symbol<'t>(
         &self,
         symbol: u32,
@@ -214,8 +228,39 @@ impl<'a> Rewriter<'a> {
         Ok(None)
     }
 
-    /// The first rule that rewrites the last of some terms, which begins with a symbol, before a
-    /// rule.
+    /// Returns the first rule below `before` that rewrites a call of `symbol`. In a small term only
+    /// the rules of its symbols' classes are tried.
+    fn rewriting_term<'t>(
+        &self,
+        symbol: u32,
+        before: usize,
+        term: Terms<'t, '_>,
+        values: &mut Values<'t>,
+    ) -> Result<Option<usize>, AllocError>
+        requires rules { IsRewriter self.now }
+        requires symbol { symbol < length (symbols self.now.checked.now.spec) }
+        requires before { before ≤ length self.now.checked.now.spec.rules }
+        requires sizes { AreSizes term.letters.now term.sizes.now }
+        requires meant { All (λ l. IsMeaning self.now.checked.now.spec l.meaning)
+            term.letters.now }
+        ensures first { IfOk result (λ found. (t : syntax.Term)
+            → AreLetters self.now.checked.now.spec term.entry.letters.now t
+            → (head t).bytes ≡ name_of self.now.checked.now.spec (Symbol symbol)
+            → IsFirstWord self.now.checked.now.spec found
+            (rewritten_by self.now.checked.now.spec
+            (take before self.now.checked.now.spec.rules) t)) }
+        ensures within { IfOk result (λ found.
+            IfSome found (λ rule. rule < length self.now.checked.now.spec.rules)) }
+    {
+        if term.letters.len() <= MOST_ITEMS {
+            self.rewriting_small(before, term, values)
+        } else {
+            self.rewriting_symbol(symbol, before, term, values)
+        }
+    }
+
+    /// Returns the first rule below `before` that rewrites the last of these terms, which is a call
+    /// of `symbol`.
     fn rewriting_call<'t>(
         &self,
         symbol: u32,
@@ -242,10 +287,10 @@ impl<'a> Rewriter<'a> {
             return Ok(None);
         }
         let (_others, term) = terms.split_at(terms.before_last());
-        self.rewriting_symbol(symbol, before, term, values)
+        self.rewriting_term(symbol, before, term, values)
     }
 
-    /// The first rule that rewrites the last of some terms, before a rule.
+    /// Returns the first rule below `before` that rewrites the last of these terms.
     fn rewriting<'t>(
         &self,
         before: usize,
@@ -274,8 +319,7 @@ impl<'a> Rewriter<'a> {
         }
     }
 
-    /// Whether a left side that begins with a symbol matches a term, whatever its rule's
-    /// conditions.
+    /// Returns whether a left-hand side of this symbol matches a term, with any conditions.
     fn matching_symbol<'t>(
         &self,
         symbol: u32,
@@ -301,8 +345,8 @@ impl<'a> Rewriter<'a> {
         Ok(false)
     }
 
-    /// Whether a left side matches the call of a symbol of these letters, whatever its rule's
-    /// conditions.
+    /// Returns whether a left-hand side matches the call of `symbol` with these postfix items, with
+    /// any conditions.
     pub(crate) fn covers(
         &self,
         alloc: Global,
@@ -324,7 +368,7 @@ impl<'a> Rewriter<'a> {
         self.matching_symbol(symbol, term, &mut Values::new(alloc))
     }
 
-    /// The first rule of a symbol; the number of rules, where there is none.
+    /// Returns the first rule of a symbol, or the number of rules if there is none.
     pub(crate) fn first_rule(&self, symbol: u32) -> usize {
         match self.chains.firsts.get(symbol as usize) {
             Some(rule) => *rule,
@@ -332,7 +376,7 @@ impl<'a> Rewriter<'a> {
         }
     }
 
-    /// The next rule of the same symbol; the number of rules, where there is none.
+    /// Returns the next rule of the same symbol, or the number of rules if there is none.
     pub(crate) fn next_rule(&self, rule: usize) -> usize {
         match self.chains.nexts.get(rule) {
             Some(rule) => *rule,
@@ -340,7 +384,7 @@ impl<'a> Rewriter<'a> {
         }
     }
 
-    /// The first rule that rewrites the left side of a rule, before that one.
+    /// Returns the first earlier rule that rewrites the left-hand side of `rule`.
     fn rewriting_left(
         &self,
         alloc: Global,

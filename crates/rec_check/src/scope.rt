@@ -1,4 +1,4 @@
-//! What the names of a specification stand for.
+//! The sorts of names in a specification.
 
 ghost use Rattle.std.specs.Prelude.{
   ◌≡◌,
@@ -26,7 +26,8 @@ ghost use Rattle.rec_syntax.specs.Parts.{
   group_of,
   words_of,
 };
-ghost use Rattle.rec_sorts.specs.Lookup.{same_sort, symbol, symbols};
+ghost use Rattle.rec_sorts.specs.Lookup.{symbol, symbols};
+ghost use Rattle.rec_check.specs.Errors.{clash};
 ghost use Rattle.rec_check.specs.Lookups.{
   IsScope,
   all_sorts,
@@ -35,10 +36,11 @@ ghost use Rattle.rec_check.specs.Lookups.{
   sort_named,
 };
 ghost use Rattle.rec_check.specs.Named.{as_nodes, as_word, as_words};
-ghost use Rattle.rec_check.specs.Walks.{ill_sorted_among, misfits, unlike_heads};
+ghost use Rattle.rec_check.specs.Walks.{ill_sorted_among, misfits_of, unlike_heads};
 
+use crate::located::{Counted, Word};
 use crate::names::Names;
-use crate::words::{Counted, Word, declared_words, word_at};
+use crate::words::{declared_words, sort_words, word_at};
 use rec_syntax::{Declaration, Group, Span, Syntax};
 use std::alloc::{AllocError, Global};
 
@@ -47,11 +49,13 @@ use std::alloc::{AllocError, Global};
 pub struct Scope<'a> {
     syntax: &'a Syntax,
     names: Names<'a>,
-    /// The sort of each of them.
+    /// The sort of each of them, by number.
     sorts: Vec<Word<'a>>,
+    /// The names of the declared sorts.
+    known: Names<'a>,
 }
 
-/// The sorts that symbols have behind other words.
+/// Appends the sort of each of these symbols.
 fn push_own_sorts<'a>(
     syntax: &'a Syntax,
     declarations: &[Declaration],
@@ -67,7 +71,7 @@ fn push_own_sorts<'a>(
     Ok(())
 }
 
-/// The sort of a group's variables behind other words, once for each.
+/// Appends the sort of a group's variables, once for each variable.
 fn push_sort_of_each<'a>(
     syntax: &'a Syntax,
     group: &Group,
@@ -87,7 +91,7 @@ fn push_sort_of_each<'a>(
     Ok(())
 }
 
-/// The same of groups.
+/// Appends the sorts of the variables of these groups.
 fn push_sorts_of_groups<'a>(
     syntax: &'a Syntax,
     groups: &[Group],
@@ -104,7 +108,7 @@ fn push_sorts_of_groups<'a>(
     Ok(())
 }
 
-/// The sort of each symbol and of each variable.
+/// Returns the sort of each symbol and of each variable.
 fn sorts_of_all<'a>(alloc: Global, syntax: &'a Syntax) -> Result<Vec<Word<'a>>, AllocError>
     ensures { IfOk result (λ v. as_words v.items ≡ all_sorts syntax.now.spec) }
 {
@@ -115,19 +119,7 @@ fn sorts_of_all<'a>(alloc: Global, syntax: &'a Syntax) -> Result<Vec<Word<'a>>, 
     Ok(sorts)
 }
 
-/// Whether two sorts are equal, or neither is there.
-fn same(left: Option<&[u8]>, right: Option<&[u8]>) -> bool
-    ensures { result ≡ same_sort (option_map (λ s. s.now) left.entry)
-        (option_map (λ s. s.now) right.entry) }
-{
-    match (left, right) {
-        (Some(left), Some(right)) => left == right,
-        (None, None) => true,
-        _ => false,
-    }
-}
-
-/// The declaration of the symbol of this number.
+/// Returns the declaration of the symbol with this number.
 pub(crate) fn symbol_numbered<'a>(syntax: &'a Syntax, number: usize) -> Option<&'a Declaration>
     ensures symbol { option_map (λ d. declaration_of syntax.now.source d.now) result
         ≡ slice_get (symbols syntax.now.spec) number }
@@ -147,7 +139,7 @@ pub(crate) fn symbol_numbered<'a>(syntax: &'a Syntax, number: usize) -> Option<&
 }
 
 impl<'a> Scope<'a> {
-    /// What a specification declares.
+    /// Returns the scope of a specification.
     pub fn of(alloc: Global, syntax: &'a Syntax) -> Result<Self, AllocError>
         ensures scope { IfOk result IsScope }
         ensures same { IfOk result (λ s. s.syntax.now ≡ syntax.now) }
@@ -155,14 +147,31 @@ impl<'a> Scope<'a> {
         let words = declared_words(alloc, syntax)?;
         let names = Names::of(alloc, &words)?;
         let sorts = sorts_of_all(alloc, syntax)?;
+        let declared = sort_words(alloc, syntax)?;
+        let known = Names::of(alloc, &declared)?;
         Ok(Scope {
             syntax,
             names,
             sorts,
+            known,
         })
     }
 
-    /// The declaration of the symbol of this name.
+    /// Returns whether two sorts are declared and differ.
+    fn do_clash(&self, left: Option<&[u8]>, right: Option<&[u8]>) -> bool
+        requires { IsScope self.now }
+        ensures { result ≡ clash self.now.syntax.now.spec (option_map (λ s. s.now) left.entry)
+            (option_map (λ s. s.now) right.entry) }
+    {
+        match (left, right) {
+            (Some(left), Some(right)) => {
+                self.known.has(left) && self.known.has(right) && left != right
+            }
+            _ => false,
+        }
+    }
+
+    /// Returns the declaration of the symbol with this name.
     fn declaration(&self, name: &[u8]) -> Option<&'a Declaration>
         requires { IsScope self.now }
         ensures symbol { option_map (λ d. declaration_of self.now.syntax.now.source d.now) result
@@ -175,7 +184,7 @@ impl<'a> Scope<'a> {
         }
     }
 
-    /// The sort of a name.
+    /// Returns the sort of a name.
     pub fn sort(&self, name: &[u8]) -> Option<&'a [u8]>
         requires { IsScope self.now }
         ensures { option_map (λ s. s.now) result ≡ sort_named self.now.syntax.now.spec name.now }
@@ -186,7 +195,7 @@ impl<'a> Scope<'a> {
         }
     }
 
-    /// The sort of this number.
+    /// Returns the sort with this number.
     fn sort_numbered(&self, number: usize) -> Option<&'a [u8]>
         ensures { option_map (λ s. s.now) result
             ≡ option_map (λ w. w.bytes.now) (slice_get self.now.sorts.items number) }
@@ -198,7 +207,7 @@ impl<'a> Scope<'a> {
         }
     }
 
-    /// The sorts of the arguments of a name.
+    /// Returns the declared sorts of the arguments of a name.
     fn arguments(&self, name: &[u8]) -> &'a [Span]
         requires { IsScope self.now }
         ensures sorts { words_of self.now.syntax.now.source result.now
@@ -211,7 +220,7 @@ impl<'a> Scope<'a> {
         }
     }
 
-    /// The words with another number of arguments than declared.
+    /// Returns the words with the wrong number of arguments.
     pub fn ill_filled_words(
         &self,
         alloc: Global,
@@ -230,7 +239,8 @@ impl<'a> Scope<'a> {
         Ok(found)
     }
 
-    /// The heads whose sort is not the one for their place, behind other words.
+    /// Appends the heads whose sort clashes with the declared one, if there are as many heads as
+    /// sorts.
     fn push_misfits(
         &self,
         heads: &[Word<'a>],
@@ -240,20 +250,23 @@ impl<'a> Scope<'a> {
         requires scope { IsScope self.now }
         requires within { All (Within self.now.syntax.now.source) sorts.now }
         ensures { OnOk result (as_words found.new.items ≡ as_words found.old.items
-            ++ misfits self.now.syntax.now.spec (as_words heads.now)
+            ++ misfits_of self.now.syntax.now.spec (as_words heads.now)
             (words_of self.now.syntax.now.source sorts.now)) }
     {
+        if heads.len() != sorts.len() {
+            return Ok(());
+        }
         for (head, sort) in heads.iter().zip(sorts) {
             let due = self.syntax.word(*sort);
-            if !same(self.sort(head.bytes), Some(due)) {
+            if self.do_clash(self.sort(head.bytes), Some(due)) {
                 found.push(*head)?;
             }
         }
         Ok(())
     }
 
-    /// The arguments of a node of another sort than declared, behind other words. They are the last
-    /// ones of a stack of heads, where the node's word stands for them then.
+    /// Appends the arguments of a node that have the wrong sort. They are on top of a stack of
+    /// heads; the node's word replaces them.
     fn push_ill_sorted(
         &self,
         node: Counted<'a>,
@@ -265,7 +278,7 @@ impl<'a> Scope<'a> {
             ≡ take (length heads.old.items - node.entry.count) heads.old.items
             ++ node.entry.word ∷ []) }
         ensures found { OnOk result (as_words found.new.items ≡ as_words found.old.items
-            ++ misfits self.now.syntax.now.spec
+            ++ misfits_of self.now.syntax.now.spec
             (as_words (drop (length heads.old.items - node.entry.count) heads.old.items))
             (argument_sorts self.now.syntax.now.spec node.entry.word.bytes.now)) }
     {
@@ -277,7 +290,8 @@ impl<'a> Scope<'a> {
         Ok(())
     }
 
-    /// The arguments of another sort than declared, by a stack of the heads of the terms so far.
+    /// Returns the arguments of the wrong sort. The walk keeps a stack of the heads of complete
+    /// terms.
     pub fn ill_sorted_words(
         &self,
         alloc: Global,
@@ -295,7 +309,7 @@ impl<'a> Scope<'a> {
         Ok(found)
     }
 
-    /// The left one of two heads, where their sorts differ, behind other words.
+    /// Appends the left one of two heads if their sorts clash.
     pub(crate) fn push_unlike(
         &self,
         left: Word<'a>,
@@ -306,7 +320,7 @@ impl<'a> Scope<'a> {
         ensures { OnOk result (as_words found.new.items ≡ as_words found.old.items
             ++ unlike_heads self.now.syntax.now.spec (as_word left.entry) (as_word right.entry)) }
     {
-        if !same(self.sort(left.bytes), self.sort(right.bytes)) {
+        if self.do_clash(self.sort(left.bytes), self.sort(right.bytes)) {
             found.push(left)?;
         }
         Ok(())

@@ -1,9 +1,19 @@
 //! Lines and columns of a text.
 
-ghost use Rattle.std.specs.Prelude.{◌≡◌, ◌+◌, ◌<◌, ◌≤◌, ◌^◌, length};
-ghost use Rattle.rec_check.specs.Spots.{spot_behind, spot_of};
+ghost use Rattle.std.specs.Prelude.{◌≡◌, ◌+◌, ◌<◌, ◌≤◌, ◌^◌, ◌++◌, IfOk, OnOk, decimal, length};
+ghost use Rattle.rec_check.specs.Spots.{spot_behind, spot_of, spot_shown};
 
-/// A line, and a byte of it, both from 1.
+use itoa::Buffer;
+use std::alloc::{AllocError, Global};
+
+/// Appends a number in decimal digits.
+fn push_number(number: u64, text: &mut Vec<u8>) -> Result<(), AllocError>
+    ensures { OnOk result (text.new.items ≡ text.old.items ++ decimal number) }
+{
+    text.extend_from_slice(Buffer::new().format(number).as_bytes())
+}
+
+/// A location: a line and a column in bytes, both from 1.
 #[derive(Clone, Copy, Debug, Drop, PartialEq, Eq)]
 pub struct Spot {
     pub line: u64,
@@ -11,10 +21,21 @@ pub struct Spot {
 }
 
 impl Spot {
-    /// The first byte of a text.
+    /// The location of the first byte.
     const FIRST: Spot = Spot { line: 1, column: 1 };
 
-    /// What stands behind a byte.
+    /// Returns the location as a text: its line, a colon and its column.
+    pub(crate) fn text(self, alloc: Global) -> Result<Vec<u8>, AllocError>
+        ensures { IfOk result (λ text. text.items ≡ spot_shown self) }
+    {
+        let mut text = Vec::new(alloc);
+        push_number(self.line, &mut text)?;
+        text.push(b':')?;
+        push_number(self.column, &mut text)?;
+        Ok(text)
+    }
+
+    /// Returns the location after a byte.
     fn behind(self, byte: u8) -> Spot
         requires { (self.line < 2 ^ 63) × (self.column < 2 ^ 63) }
         ensures { result ≡ spot_behind self byte }
@@ -33,20 +54,20 @@ impl Spot {
     }
 }
 
-/// Goes over a text from its beginning.
+/// A cursor that computes locations in a text.
 #[derive(Drop)]
 pub struct Cursor<'a> {
     text: &'a [u8],
-    /// How many bytes were passed.
+    /// The offset of the cursor.
     at: usize,
-    /// The line and the column of the next one.
+    /// The location of that offset.
     spot: Spot,
 }
 
 impl<'a> Cursor<'a> {
     ghost use Rattle.rec_check.specs.Cursors.{IsCursor};
 
-    /// Before the first byte.
+    /// Returns a cursor at the first byte.
     pub fn new(text: &'a [u8]) -> Cursor<'a>
         ensures { IsCursor text.now result }
     {
@@ -57,7 +78,7 @@ impl<'a> Cursor<'a> {
         }
     }
 
-    /// Back to the first byte.
+    /// Moves to the first byte.
     fn restart(&mut self)
         ensures cursor { IsCursor self.old.text.now self.new }
         ensures at { self.new.at ≡ 0 }
@@ -66,7 +87,7 @@ impl<'a> Cursor<'a> {
         self.spot = Spot::FIRST;
     }
 
-    /// Goes on by a byte.
+    /// Moves over one byte.
     fn step(&mut self)
         requires cursor { IsCursor self.old.text.now self.old }
         requires within { self.old.at < length self.old.text.now }
@@ -77,7 +98,7 @@ impl<'a> Cursor<'a> {
         self.at += 1;
     }
 
-    /// Goes on to a byte.
+    /// Moves to a greater offset.
     fn go_on(&mut self, end: usize)
         requires cursor { IsCursor self.old.text.now self.old }
         requires ordered { self.old.at ≤ end }
@@ -90,7 +111,7 @@ impl<'a> Cursor<'a> {
         }
     }
 
-    /// Back to the first byte, where more bytes were passed than so many.
+    /// Moves to the first byte if the cursor is after offset `end`.
     fn begin_before(&mut self, end: usize)
         requires { IsCursor self.old.text.now self.old }
         ensures cursor { IsCursor self.old.text.now self.new }
@@ -101,8 +122,8 @@ impl<'a> Cursor<'a> {
         }
     }
 
-    /// The line and the column that so many bytes stand before. To go on is cheap, to go back is
-    /// not.
+    /// Returns the location of an offset. The cost is the distance to the previous offset if that
+    /// was not greater, and otherwise the offset itself.
     pub fn spot(&mut self, at: usize) -> Spot
         requires { IsCursor self.old.text.now self.old }
         ensures spot { result ≡ spot_of self.old.text.now at }

@@ -1,9 +1,11 @@
-//! Calls over terms of constructors are put together and asked of all left sides, with their texts.
+//! Ground calls: they are built from ground terms, compared with all left-hand sides, and printed.
 
 ghost use Rattle.std.specs.Prelude.{
   ◌≡◌,
   ◌++◌,
   ◌∷◌,
+  ◌&&◌,
+  ◌||◌,
   ◌<◌,
   [],
   All,
@@ -14,6 +16,7 @@ ghost use Rattle.std.specs.Prelude.{
   Some,
   length,
   map,
+  not,
   slice_get,
   true,
 };
@@ -31,33 +34,38 @@ ghost use Rattle.rec_check.specs.Inner.Grounds.{
   IsGroundOf,
   sorts_had,
 };
-ghost use Rattle.rec_check.specs.Uncovered.{begins_rule, sorts_due};
+ghost use Rattle.rec_check.specs.Uncovered.{begins_rule, may_fill, sorts_due};
 
 use crate::broken::left_heads;
-use crate::finding::{Example, Kind};
+use crate::finding::{Diagnostic, Kind};
 use crate::matching::{Terms, Values, sizes};
 use crate::names::Names;
 use crate::printed::push_name;
 use crate::rewriting::Rewriter;
 use crate::scope::symbol_numbered;
+use crate::unused::used_names;
+use crate::words::constructor_words;
 use rec_sorts::{Checked, Letter, Meaning};
 use rec_syntax::{Declaration, Span, Syntax};
 use std::alloc::{AllocError, Global};
 
-/// How many bytes the text of an example may have.
+/// The largest length of a printed call, in bytes.
 const LONGEST_TEXT: usize = 200;
 
-/// A term of constructors, or a call over such terms: its sort, its letters and its text.
+/// A ground term, or a call whose arguments are ground terms, with its sort, its postfix items and
+/// its text.
 #[derive(Drop)]
 pub(crate) struct Ground<'a> {
-    /// Where its symbol is declared: so many bytes of the text stand before it.
+    /// The offsets of its symbol's declaration.
     at: usize,
+    end: usize,
     sort: &'a [u8],
     letters: Vec<Letter>,
     text: Vec<u8>,
 }
 
-/// What stands before the text of an argument: a parenthesis before that of the first one.
+/// Returns the byte before an argument: a parenthesis before the first, and a comma before each
+/// other.
 fn mark_before(argument: usize) -> u8
     ensures first { argument ≡ 0 → result ≡ 40 }
     ensures other { 0 < argument → result ≡ 44 }
@@ -65,7 +73,7 @@ fn mark_before(argument: usize) -> u8
     if argument == 0 { b'(' } else { b',' }
 }
 
-/// What stands behind the texts of so many arguments, behind a text.
+/// Appends the closing parenthesis if there are arguments.
 fn push_end(arguments: usize, text: &mut Vec<u8>) -> Result<(), AllocError>
     ensures some { OnOk result
         (0 < arguments → text.new.items ≡ text.old.items ++ 41 ∷ []) }
@@ -77,8 +85,8 @@ fn push_end(arguments: usize, text: &mut Vec<u8>) -> Result<(), AllocError>
     Ok(())
 }
 
-/// Terms behind one another: their letters, and their texts behind another text, a parenthesis
-/// before the first one and a comma before each other.
+/// Concatenates terms: returns their items, and appends their texts with a parenthesis before the
+/// first one and a comma before each other.
 fn join(alloc: Global, terms: &[Ground<'_>], text: &mut Vec<u8>) -> Result<Vec<Letter>, AllocError>
     ensures { (y : Spec) → All (IsGroundOf y) terms.now → IfOk result (λ v.
         AreJoined y (sorts_had terms.now) v.items text.old.items text.new.items) }
@@ -92,7 +100,7 @@ fn join(alloc: Global, terms: &[Ground<'_>], text: &mut Vec<u8>) -> Result<Vec<L
     Ok(letters)
 }
 
-/// Whether terms have these sorts.
+/// Returns whether terms have these sorts.
 fn have_sorts(syntax: &Syntax, sorts: &[Span], terms: &[Ground<'_>]) -> bool
     requires { All (Within syntax.now.source) sorts.now }
     ensures { result ≡ true
@@ -109,7 +117,7 @@ fn have_sorts(syntax: &Syntax, sorts: &[Span], terms: &[Ground<'_>]) -> bool
     true
 }
 
-/// A symbol is applied to terms of the sorts that it is declared with.
+/// Applies a symbol to terms of its declared sorts.
 fn apply<'a>(
     alloc: Global,
     checked: &'a Checked,
@@ -134,14 +142,14 @@ fn apply<'a>(
     })?;
     Ok(Ground {
         at: declaration.name.from,
+        end: declaration.name.to,
         sort: checked.syntax().word(declaration.sort),
         letters,
         text,
     })
 }
 
-/// A symbol is applied to terms; to nothing, where they are not of the sorts that it is declared
-/// with.
+/// Applies a symbol to terms. Returns `None` if they do not have its declared sorts.
 fn call<'a>(
     alloc: Global,
     checked: &'a Checked,
@@ -161,17 +169,29 @@ fn call<'a>(
     Ok(Some(apply(alloc, checked, symbol, declaration, terms)?))
 }
 
-/// Asks the left sides of a specification of calls.
+/// Returns whether ground terms are made of a symbol: it begins no left-hand side, and it is a
+/// constructor or is used.
+fn fills(is_begun: bool, is_made: bool, is_used: bool) -> bool
+    ensures { result ≡ (not is_begun && (is_made || is_used)) }
+{
+    !is_begun && (is_made || is_used)
+}
+
+/// Compares calls with the left-hand sides of a specification.
 #[derive(Drop)]
 pub(crate) struct Asker<'a> {
     pub checked: &'a Checked,
     pub rewriter: Rewriter<'a>,
-    /// The names with which left sides begin.
+    /// The symbols of left-hand sides.
     begun: Names<'a>,
+    /// The constructors.
+    made: Names<'a>,
+    /// The symbols in rules and EVAL terms.
+    used: Names<'a>,
 }
 
 impl<'a> Asker<'a> {
-    /// The left sides of a specification.
+    /// Returns the asker of a specification.
     pub(crate) fn of(alloc: Global, checked: &'a Checked) -> Result<Self, AllocError>
         ensures asker { IfOk result IsAsker }
         ensures same { IfOk result (λ a. a.checked.now ≡ checked.now) }
@@ -179,14 +199,19 @@ impl<'a> Asker<'a> {
         let rewriter = Rewriter::of(alloc, checked)?;
         let heads = left_heads(alloc, checked.syntax())?;
         let begun = Names::of(alloc, &heads)?;
+        let constructors = constructor_words(alloc, checked.syntax())?;
+        let made = Names::of(alloc, &constructors)?;
+        let used = used_names(alloc, checked.syntax())?;
         Ok(Asker {
             checked,
             rewriter,
             begun,
+            made,
+            used,
         })
     }
 
-    /// Whether a left side begins with a symbol.
+    /// Returns whether a symbol has rules.
     pub(crate) fn is_ruled(&self, symbol: u32) -> bool
         requires { IsAsker self.now }
         ensures begins { (d : syntax.Declaration)
@@ -200,7 +225,36 @@ impl<'a> Asker<'a> {
         self.begun.has(self.checked.symbol_name(symbol))
     }
 
-    /// A constructor is applied to terms; to nothing, where it is none, or is declared otherwise.
+    /// Returns whether ground terms are made of a symbol.
+    pub(crate) fn may_fill(&self, symbol: u32) -> bool
+        requires { IsAsker self.now }
+        ensures { (d : syntax.Declaration)
+            → slice_get (symbols self.now.checked.now.spec) symbol ≡ Some d
+            → result ≡ may_fill self.now.checked.now.spec d.name.bytes }
+    {
+        if symbol >= self.checked.symbols() {
+            return false;
+        }
+        let name = self.checked.symbol_name(symbol);
+        let is_begun = self.begun.has(name);
+        let is_made = self.made.has(name);
+        let is_used = self.used.has(name);
+        fills(is_begun, is_made, is_used)
+    }
+
+    /// Returns whether ground terms are made of some operator.
+    pub(crate) fn has_filling_operator(&self) -> bool
+        requires { IsAsker self.now }
+    {
+        for operator in self.checked.constructors()..self.checked.symbols() {
+            if self.may_fill(operator) {
+                return true;
+            }
+        }
+        false
+    }
+
+    /// Applies a symbol to terms. Returns `None` if it may not fill, or has other sorts.
     fn construct(
         &self,
         alloc: Global,
@@ -214,13 +268,13 @@ impl<'a> Asker<'a> {
         let Meaning::Symbol(symbol) = letter.meaning else {
             return Ok(None);
         };
-        if self.is_ruled(symbol) {
+        if !self.may_fill(symbol) {
             return Ok(None);
         }
         call(alloc, self.checked, symbol, terms)
     }
 
-    /// The terms of constructors of these letters; what is none is left out.
+    /// Builds the ground terms of these items. An item that may not fill is skipped.
     fn terms(&self, alloc: Global, letters: &[Letter]) -> Result<Vec<Ground<'a>>, AllocError>
         requires { IsAsker self.now }
         ensures { IfOk result (λ v. All (IsGroundOf self.now.checked.now.spec) v.items) }
@@ -236,7 +290,7 @@ impl<'a> Asker<'a> {
         Ok(stack)
     }
 
-    /// Whether left sides begin with the symbol of a call, but none matches it.
+    /// Returns whether the symbol of a call has rules, and no left-hand side matches the call.
     fn is_uncovered(
         &self,
         alloc: Global,
@@ -248,7 +302,12 @@ impl<'a> Asker<'a> {
             → slice_get (symbols self.now.checked.now.spec) symbol ≡ Some d
             → IsCallOf self.now.checked.now.spec d call.now → IfOk result (λ b. b ≡ true
             → ShowsCall self.now.checked.now.spec d
-            (record { at = call.now.at; shown = call.now.text.items; kind = Kind.NotCovered })) }
+            (record {
+              at = call.now.at;
+              end = call.now.end;
+              shown = call.now.text.items;
+              kind = Kind.NotCovered;
+            })) }
     {
         if self.is_ruled(symbol) && call.text.len() <= LONGEST_TEXT {
             Ok(!self.rewriter.covers(alloc, symbol, &call.letters)?)
@@ -257,13 +316,14 @@ impl<'a> Asker<'a> {
         }
     }
 
-    /// The call of a symbol over the terms of these letters, where it is an example.
+    /// Returns the call of a symbol with the terms of these items as arguments, if no left-hand
+    /// side matches it.
     pub(crate) fn example(
         &self,
         alloc: Global,
         symbol: u32,
         letters: &[Letter],
-    ) -> Result<Option<Example>, AllocError>
+    ) -> Result<Option<Diagnostic>, AllocError>
         requires { IsAsker self.now }
         ensures { IfOk result
             (λ o. IfSome o (IsExampleOf self.now.checked.now.spec symbol)) }
@@ -273,9 +333,11 @@ impl<'a> Asker<'a> {
             return Ok(None);
         };
         if self.is_uncovered(alloc, symbol, &call)? {
-            Ok(Some(Example {
+            Ok(Some(Diagnostic {
                 at: call.at,
-                text: call.text,
+                end: call.end,
+                kind: Kind::NotCovered,
+                shown: call.text,
             }))
         } else {
             Ok(None)

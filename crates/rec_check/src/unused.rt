@@ -1,19 +1,22 @@
-//! Words that are declared and never used.
+//! Unused declarations, and used operators without rules.
 
 ghost use Rattle.std.specs.Prelude.{◌≡◌, ◌++◌, IfOk, flat_map, map};
-ghost use Rattle.rec_sorts.specs.Lookup.{symbols};
-ghost use Rattle.rec_check.specs.Findings.{unused_sorts, unused_symbols, unused_variables};
+ghost use Rattle.rec_syntax.specs.Syntax.{head};
+ghost use Rattle.rec_sorts.specs.Lookup.{names, symbols};
+ghost use Rattle.rec_check.specs.Findings.{ruleless, unused_sorts, unused_symbols, unused_variables};
 ghost use Rattle.rec_sorts.specs.SpecRules.{all_terms, heads, sorts_of};
-ghost use Rattle.rec_check.specs.Lookups.{Knows};
+ghost use Rattle.rec_check.specs.Lookups.{Knows, present};
 ghost use Rattle.rec_check.specs.Named.{as_words};
 
-use crate::filters::missing_words;
+use crate::broken::left_heads;
+use crate::filters::{missing_words, present_words};
+use crate::located::Word;
 use crate::names::Names;
-use crate::words::{Word, all_words, named_sorts, sort_words, symbol_words, variables};
+use crate::words::{all_words, named_sorts, operator_words, sort_words, symbol_words, variables};
 use rec_syntax::Syntax;
 use std::alloc::{AllocError, Global};
 
-/// The names of the sorts that declarations name.
+/// Returns the names of the sorts that declarations use.
 fn named_sort_names<'a>(alloc: Global, syntax: &'a Syntax) -> Result<Names<'a>, AllocError>
     ensures { IfOk result (λ known. Knows known (flat_map sorts_of (symbols syntax.now.spec)
         ++ map (λ v. v.sort) syntax.now.spec.variables)) }
@@ -22,7 +25,7 @@ fn named_sort_names<'a>(alloc: Global, syntax: &'a Syntax) -> Result<Names<'a>, 
     Names::of(alloc, &words)
 }
 
-/// The sorts that no symbol and no variable has.
+/// Returns the sorts that neither a symbol nor a variable has.
 pub fn unused_sorts<'a>(alloc: Global, syntax: &'a Syntax) -> Result<Vec<Word<'a>>, AllocError>
     ensures { IfOk result (λ v. as_words v.items ≡ unused_sorts syntax.now.spec) }
 {
@@ -31,15 +34,15 @@ pub fn unused_sorts<'a>(alloc: Global, syntax: &'a Syntax) -> Result<Vec<Word<'a
     missing_words(alloc, &used, &sorts)
 }
 
-/// The names that stand in rules and in terms to evaluate.
-fn used_names<'a>(alloc: Global, syntax: &'a Syntax) -> Result<Names<'a>, AllocError>
+/// Returns the names that occur in rules and in EVAL terms.
+pub(crate) fn used_names<'a>(alloc: Global, syntax: &'a Syntax) -> Result<Names<'a>, AllocError>
     ensures { IfOk result (λ names. Knows names (heads (all_terms syntax.now.spec))) }
 {
     let words = all_words(alloc, syntax)?;
     Names::of(alloc, &words)
 }
 
-/// The symbols that stand in no rule and in no term to evaluate.
+/// Returns the symbols that occur in no rule and no EVAL term.
 pub fn unused_symbols<'a>(alloc: Global, syntax: &'a Syntax) -> Result<Vec<Word<'a>>, AllocError>
     ensures { IfOk result (λ v. as_words v.items ≡ unused_symbols syntax.now.spec) }
 {
@@ -48,11 +51,38 @@ pub fn unused_symbols<'a>(alloc: Global, syntax: &'a Syntax) -> Result<Vec<Word<
     missing_words(alloc, &used, &symbols)
 }
 
-/// The variables that stand in no rule.
+/// Returns the variables that occur in no rule and no EVAL term.
 pub fn unused_variables<'a>(alloc: Global, syntax: &'a Syntax) -> Result<Vec<Word<'a>>, AllocError>
     ensures { IfOk result (λ v. as_words v.items ≡ unused_variables syntax.now.spec) }
 {
     let used = used_names(alloc, syntax)?;
     let words = variables(alloc, syntax)?;
     missing_words(alloc, &used, &words)
+}
+
+/// Returns the operators that occur in rules or EVAL terms.
+fn used_operators<'a>(alloc: Global, syntax: &'a Syntax) -> Result<Vec<Word<'a>>, AllocError>
+    ensures { IfOk result (λ v. as_words v.items
+        ≡ present (heads (all_terms syntax.now.spec)) (names syntax.now.spec.operators)) }
+{
+    let used = used_names(alloc, syntax)?;
+    let operators = operator_words(alloc, syntax)?;
+    present_words(alloc, &used, &operators)
+}
+
+/// Returns the names of the left-hand sides' symbols.
+fn ruled_names<'a>(alloc: Global, syntax: &'a Syntax) -> Result<Names<'a>, AllocError>
+    ensures { IfOk result (λ names. Knows names (map (λ r. head r.left) syntax.now.spec.rules)) }
+{
+    let heads = left_heads(alloc, syntax)?;
+    Names::of(alloc, &heads)
+}
+
+/// Returns the operators that occur in rules or EVAL terms and have no rules.
+pub fn ruleless<'a>(alloc: Global, syntax: &'a Syntax) -> Result<Vec<Word<'a>>, AllocError>
+    ensures { IfOk result (λ v. as_words v.items ≡ ruleless syntax.now.spec) }
+{
+    let ruled = ruled_names(alloc, syntax)?;
+    let used = used_operators(alloc, syntax)?;
+    missing_words(alloc, &ruled, &used)
 }

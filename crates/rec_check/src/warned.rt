@@ -1,10 +1,9 @@
-//! What a good specification is warned of.
+//! The warnings for a well-formed specification.
 
 ghost use Rattle.std.specs.Prelude.{◌≡◌, ◌++◌, [], IfOk, OnOk};
 ghost use Rattle.rec_check.specs.Findings.{
   AreInOrder,
-  as_examples,
-  as_findings,
+  as_diagnostics,
   found_at,
   never_tried,
   unused,
@@ -12,25 +11,26 @@ ghost use Rattle.rec_check.specs.Findings.{
   unused_symbols,
   unused_variables,
   warnings,
+  without_rules,
 };
 ghost use Rattle.rec_check.specs.Inner.Inside.{never_matching_inside};
 
-use crate::finding::{Example, Finding, Kind, Shown};
+use crate::finding::{Diagnostic, Kind};
 use crate::matching::Values;
 use crate::order::{in_order, push_found};
 use crate::rewriting::Rewriter;
-use crate::unused::{unused_sorts, unused_symbols, unused_variables};
+use crate::unused::{ruleless, unused_sorts, unused_symbols, unused_variables};
 use rec_sorts::Checked;
 use rec_syntax::Syntax;
 use std::alloc::{AllocError, Global};
 
-/// The rules that are never tried or never match, behind other findings.
-fn push_rewritten<'a>(
+/// Appends the unreachable rules and the rules that cannot match.
+fn push_rewritten(
     alloc: Global,
-    checked: &'a Checked,
-    found: &mut Vec<Finding<'a>>,
+    checked: &Checked,
+    found: &mut Vec<Diagnostic>,
 ) -> Result<(), AllocError>
-    ensures { OnOk result (as_findings found.new.items ≡ as_findings found.old.items
+    ensures { OnOk result (as_diagnostics found.new.items ≡ as_diagnostics found.old.items
         ++ never_tried checked.now.source checked.now.spec [] checked.now.spec.rules
         ++ never_matching_inside checked.now.source checked.now.spec) }
 {
@@ -40,91 +40,99 @@ fn push_rewritten<'a>(
     rewriter.push_never_matching(alloc, &mut values, found)
 }
 
-/// The sorts that are never used, behind other findings.
-fn push_unused_sorts<'a>(
+/// Appends the unused sorts.
+fn push_unused_sorts(
     alloc: Global,
-    syntax: &'a Syntax,
-    found: &mut Vec<Finding<'a>>,
+    syntax: &Syntax,
+    found: &mut Vec<Diagnostic>,
 ) -> Result<(), AllocError>
-    ensures { OnOk result (as_findings found.new.items ≡ as_findings found.old.items
+    ensures { OnOk result (as_diagnostics found.new.items ≡ as_diagnostics found.old.items
         ++ found_at Kind.UnusedSort (unused_sorts syntax.now.spec)) }
 {
     let sorts = unused_sorts(alloc, syntax)?;
     push_found(Kind::UnusedSort, &sorts, found)
 }
 
-/// The symbols that are never used, behind other findings.
-fn push_unused_symbols<'a>(
+/// Appends the unused symbols.
+fn push_unused_symbols(
     alloc: Global,
-    syntax: &'a Syntax,
-    found: &mut Vec<Finding<'a>>,
+    syntax: &Syntax,
+    found: &mut Vec<Diagnostic>,
 ) -> Result<(), AllocError>
-    ensures { OnOk result (as_findings found.new.items ≡ as_findings found.old.items
+    ensures { OnOk result (as_diagnostics found.new.items ≡ as_diagnostics found.old.items
         ++ found_at Kind.UnusedSymbol (unused_symbols syntax.now.spec)) }
 {
     let symbols = unused_symbols(alloc, syntax)?;
     push_found(Kind::UnusedSymbol, &symbols, found)
 }
 
-/// The variables that are never used, behind other findings.
-fn push_unused_variables<'a>(
+/// Appends the unused variables.
+fn push_unused_variables(
     alloc: Global,
-    syntax: &'a Syntax,
-    found: &mut Vec<Finding<'a>>,
+    syntax: &Syntax,
+    found: &mut Vec<Diagnostic>,
 ) -> Result<(), AllocError>
-    ensures { OnOk result (as_findings found.new.items ≡ as_findings found.old.items
+    ensures { OnOk result (as_diagnostics found.new.items ≡ as_diagnostics found.old.items
         ++ found_at Kind.UnusedVariable (unused_variables syntax.now.spec)) }
 {
     let variables = unused_variables(alloc, syntax)?;
     push_found(Kind::UnusedVariable, &variables, found)
 }
 
-/// What is never used, behind other findings.
-fn push_unused<'a>(
+/// Appends the unused declarations.
+fn push_unused(
     alloc: Global,
-    syntax: &'a Syntax,
-    found: &mut Vec<Finding<'a>>,
+    syntax: &Syntax,
+    found: &mut Vec<Diagnostic>,
 ) -> Result<(), AllocError>
     ensures { OnOk result
-        (as_findings found.new.items ≡ as_findings found.old.items ++ unused syntax.now.spec) }
+        (as_diagnostics found.new.items ≡ as_diagnostics found.old.items ++ unused syntax.now.spec) }
 {
     push_unused_sorts(alloc, syntax, found)?;
     push_unused_symbols(alloc, syntax, found)?;
     push_unused_variables(alloc, syntax, found)
 }
 
-/// Examples of calls that are not covered, behind other findings.
-fn push_examples<'a>(
-    examples: &'a [Example],
-    found: &mut Vec<Finding<'a>>,
+/// Appends the used operators without rules.
+fn push_without_rules(
+    alloc: Global,
+    syntax: &Syntax,
+    found: &mut Vec<Diagnostic>,
 ) -> Result<(), AllocError>
-    ensures { OnOk result (as_findings found.new.items
-        ≡ as_findings found.old.items ++ as_examples examples.now) }
+    ensures { OnOk result (as_diagnostics found.new.items
+        ≡ as_diagnostics found.old.items ++ without_rules syntax.now.spec) }
 {
-    for example in examples {
-        found.push(Finding {
-            at: example.at,
-            shown: Shown::Bytes(&example.text),
-            kind: Kind::NotCovered,
-        })?;
-    }
-    Ok(())
+    let operators = ruleless(alloc, syntax)?;
+    push_found(Kind::WithoutRules, &operators, found)
 }
 
-/// What a good specification is warned of, with examples of calls that are not covered, in the
-/// order of the places.
-pub fn warnings<'a>(
+/// Appends the unused declarations and the used operators without rules.
+fn push_declarations(
     alloc: Global,
-    checked: &'a Checked,
-    examples: &'a [Example],
-) -> Result<Vec<Finding<'a>>, AllocError>
+    syntax: &Syntax,
+    found: &mut Vec<Diagnostic>,
+) -> Result<(), AllocError>
+    ensures { OnOk result (as_diagnostics found.new.items
+        ≡ as_diagnostics found.old.items ++ (unused syntax.now.spec ++ without_rules syntax.now.spec)) }
+{
+    push_unused(alloc, syntax, found)?;
+    push_without_rules(alloc, syntax, found)
+}
+
+/// Returns the warnings for a well-formed specification, with these missing cases, in the order of
+/// the text.
+pub fn warnings(
+    alloc: Global,
+    checked: &Checked,
+    mut missing: Vec<Diagnostic>,
+) -> Result<Vec<Diagnostic>, AllocError>
     ensures { IfOk result (λ v. AreInOrder
-        (warnings checked.now.source checked.now.spec ++ as_examples examples.now)
-        (as_findings v.items)) }
+        (warnings checked.now.source checked.now.spec ++ as_diagnostics missing.items)
+        (as_diagnostics v.items)) }
 {
     let mut found = Vec::new(alloc);
     push_rewritten(alloc, checked, &mut found)?;
-    push_unused(alloc, checked.syntax(), &mut found)?;
-    push_examples(examples, &mut found)?;
+    push_declarations(alloc, checked.syntax(), &mut found)?;
+    found.append(&mut missing)?;
     in_order(found)
 }

@@ -12,24 +12,11 @@ ghost use Rattle.rec_sorts.specs.SpecRules.{sorts_of};
 ghost use Rattle.rec_check.specs.Named.{as_nodes, as_word, as_words, node_words};
 ghost use Rattle.rec_check.specs.Walks.{flat_terms};
 
+use crate::located::{Counted, Word};
 use rec_syntax::{Condition, Declaration, Group, Rule, Span, Syntax, Term};
 use std::alloc::{AllocError, Global};
 
-/// A word, and how many bytes of the text stand before it.
-#[derive(Clone, Copy, Drop)]
-pub struct Word<'a> {
-    pub at: usize,
-    pub bytes: &'a [u8],
-}
-
-/// A word of a term, and how many arguments it has.
-#[derive(Clone, Copy, Drop)]
-pub struct Counted<'a> {
-    pub word: Word<'a>,
-    pub count: usize,
-}
-
-/// The word of a span.
+/// Returns the word of a span.
 pub(crate) fn word_at<'a>(syntax: &'a Syntax, span: Span) -> Word<'a>
     requires { Within syntax.now.source span }
     ensures { as_word result ≡ word_of syntax.now.source span }
@@ -40,7 +27,7 @@ pub(crate) fn word_at<'a>(syntax: &'a Syntax, span: Span) -> Word<'a>
     }
 }
 
-/// Words behind others.
+/// Appends the words of these spans.
 pub(crate) fn push_words<'a>(
     syntax: &'a Syntax,
     spans: &[Span],
@@ -56,7 +43,7 @@ pub(crate) fn push_words<'a>(
     Ok(())
 }
 
-/// The names of symbols behind other words.
+/// Appends the names of symbols.
 fn push_names<'a>(
     syntax: &'a Syntax,
     declarations: &[Declaration],
@@ -72,7 +59,7 @@ fn push_names<'a>(
     Ok(())
 }
 
-/// The sorts of a symbol behind other words.
+/// Appends the sorts in the declaration of a symbol.
 fn push_sorts_of<'a>(
     syntax: &'a Syntax,
     declaration: &Declaration,
@@ -87,7 +74,7 @@ fn push_sorts_of<'a>(
     Ok(())
 }
 
-/// The sorts of symbols behind other words.
+/// Appends the sorts in the declarations of symbols.
 fn push_sorts<'a>(
     syntax: &'a Syntax,
     declarations: &[Declaration],
@@ -103,7 +90,7 @@ fn push_sorts<'a>(
     Ok(())
 }
 
-/// The sorts of groups of variables behind other words.
+/// Appends the sorts of groups of variables.
 fn push_group_sorts<'a>(
     syntax: &'a Syntax,
     groups: &[Group],
@@ -119,7 +106,7 @@ fn push_group_sorts<'a>(
     Ok(())
 }
 
-/// The variables of a group behind other words.
+/// Appends the variables of a group.
 fn push_variables_of<'a>(
     syntax: &'a Syntax,
     group: &Group,
@@ -133,7 +120,7 @@ fn push_variables_of<'a>(
     push_words(syntax, group.others.as_slice(), words)
 }
 
-/// The variables of groups behind other words.
+/// Appends the variables of groups.
 fn push_variables<'a>(
     syntax: &'a Syntax,
     groups: &[Group],
@@ -149,7 +136,7 @@ fn push_variables<'a>(
     Ok(())
 }
 
-/// The sorts that are declared.
+/// Returns the declared sorts.
 pub fn sort_words<'a>(alloc: Global, syntax: &'a Syntax) -> Result<Vec<Word<'a>>, AllocError>
     ensures { IfOk result (λ v. as_words v.items ≡ syntax.now.spec.sorts) }
 {
@@ -158,7 +145,7 @@ pub fn sort_words<'a>(alloc: Global, syntax: &'a Syntax) -> Result<Vec<Word<'a>>
     Ok(words)
 }
 
-/// The words that declare symbols.
+/// Returns the words that declare symbols.
 pub fn symbol_words<'a>(alloc: Global, syntax: &'a Syntax) -> Result<Vec<Word<'a>>, AllocError>
     ensures { IfOk result (λ v. as_words v.items ≡ names (symbols syntax.now.spec)) }
 {
@@ -168,7 +155,19 @@ pub fn symbol_words<'a>(alloc: Global, syntax: &'a Syntax) -> Result<Vec<Word<'a
     Ok(words)
 }
 
-/// Those of them that declare operators.
+/// Returns the words that declare constructors.
+pub(crate) fn constructor_words<'a>(
+    alloc: Global,
+    syntax: &'a Syntax,
+) -> Result<Vec<Word<'a>>, AllocError>
+    ensures { IfOk result (λ v. as_words v.items ≡ names syntax.now.spec.constructors) }
+{
+    let mut words = Vec::new(alloc);
+    push_names(syntax, syntax.constructors(), &mut words)?;
+    Ok(words)
+}
+
+/// Returns the words that declare operators.
 pub fn operator_words<'a>(alloc: Global, syntax: &'a Syntax) -> Result<Vec<Word<'a>>, AllocError>
     ensures { IfOk result (λ v. as_words v.items ≡ names syntax.now.spec.operators) }
 {
@@ -177,7 +176,7 @@ pub fn operator_words<'a>(alloc: Global, syntax: &'a Syntax) -> Result<Vec<Word<
     Ok(words)
 }
 
-/// The words that declare variables.
+/// Returns the words that declare variables.
 pub fn variables<'a>(alloc: Global, syntax: &'a Syntax) -> Result<Vec<Word<'a>>, AllocError>
     ensures { IfOk result (λ v. as_words v.items ≡ variable_words syntax.now.spec.variables) }
 {
@@ -186,7 +185,7 @@ pub fn variables<'a>(alloc: Global, syntax: &'a Syntax) -> Result<Vec<Word<'a>>,
     Ok(words)
 }
 
-/// The words that declare symbols and variables.
+/// Returns the words that declare symbols and variables.
 pub fn declared_words<'a>(alloc: Global, syntax: &'a Syntax) -> Result<Vec<Word<'a>>, AllocError>
     ensures { IfOk result (λ v. as_words v.items
         ≡ names (symbols syntax.now.spec) ++ variable_words syntax.now.spec.variables) }
@@ -196,7 +195,7 @@ pub fn declared_words<'a>(alloc: Global, syntax: &'a Syntax) -> Result<Vec<Word<
     Ok(words)
 }
 
-/// The sorts that declarations name.
+/// Returns the sorts that declarations use.
 pub fn named_sorts<'a>(alloc: Global, syntax: &'a Syntax) -> Result<Vec<Word<'a>>, AllocError>
     ensures { IfOk result (λ v. as_words v.items ≡ flat_map sorts_of (symbols syntax.now.spec)
         ++ map (λ v. v.sort) syntax.now.spec.variables) }
@@ -208,7 +207,7 @@ pub fn named_sorts<'a>(alloc: Global, syntax: &'a Syntax) -> Result<Vec<Word<'a>
     Ok(words)
 }
 
-/// The nodes of a term behind others.
+/// Appends the nodes of a term in postfix form.
 pub(crate) fn push_term<'a>(
     syntax: &'a Syntax,
     term: &Term,
@@ -227,7 +226,7 @@ pub(crate) fn push_term<'a>(
     Ok(())
 }
 
-/// The nodes of terms behind others.
+/// Appends the nodes of terms.
 fn push_terms<'a>(
     syntax: &'a Syntax,
     terms: &[Term],
@@ -243,7 +242,7 @@ fn push_terms<'a>(
     Ok(())
 }
 
-/// The nodes of conditions behind others.
+/// Appends the nodes of conditions.
 fn push_conditions<'a>(
     syntax: &'a Syntax,
     conditions: &[Condition],
@@ -260,7 +259,7 @@ fn push_conditions<'a>(
     Ok(())
 }
 
-/// The nodes of what a rule rewrites to, and of its conditions.
+/// Returns the nodes of a rule's right-hand side and conditions.
 fn right_nodes<'a>(
     alloc: Global,
     syntax: &'a Syntax,
@@ -277,7 +276,7 @@ fn right_nodes<'a>(
     Ok(nodes)
 }
 
-/// The nodes of a rule behind others.
+/// Appends the nodes of a rule.
 fn push_rule<'a>(
     syntax: &'a Syntax,
     rule: &Rule,
@@ -292,7 +291,7 @@ fn push_rule<'a>(
     push_conditions(syntax, rule.conditions.as_slice(), nodes)
 }
 
-/// The nodes of rules behind others.
+/// Appends the nodes of rules.
 fn push_rules<'a>(
     syntax: &'a Syntax,
     rules: &[Rule],
@@ -308,7 +307,7 @@ fn push_rules<'a>(
     Ok(())
 }
 
-/// The nodes of the terms to evaluate.
+/// Returns the nodes of the EVAL terms.
 pub fn term_nodes<'a>(alloc: Global, syntax: &'a Syntax) -> Result<Vec<Counted<'a>>, AllocError>
     ensures { IfOk result (λ v. as_nodes v.items ≡ flat_terms syntax.now.spec.terms) }
 {
@@ -317,7 +316,7 @@ pub fn term_nodes<'a>(alloc: Global, syntax: &'a Syntax) -> Result<Vec<Counted<'
     Ok(nodes)
 }
 
-/// The nodes of all terms of rules, and of the terms to evaluate.
+/// Returns the nodes of all rules and EVAL terms.
 pub fn all_nodes<'a>(alloc: Global, syntax: &'a Syntax) -> Result<Vec<Counted<'a>>, AllocError>
     ensures { IfOk result (λ v. as_nodes v.items
         ≡ flat_terms (rule_terms syntax.now.spec.rules ++ syntax.now.spec.terms)) }
@@ -328,7 +327,7 @@ pub fn all_nodes<'a>(alloc: Global, syntax: &'a Syntax) -> Result<Vec<Counted<'a
     Ok(nodes)
 }
 
-/// The words of a term.
+/// Returns the words of a term.
 pub(crate) fn term_words<'a>(
     alloc: Global,
     syntax: &'a Syntax,
@@ -343,7 +342,7 @@ pub(crate) fn term_words<'a>(
     node_words(alloc, &nodes)
 }
 
-/// The words of all terms of rules, and of the terms to evaluate.
+/// Returns the words of all rules and EVAL terms.
 pub(crate) fn all_words<'a>(alloc: Global, syntax: &'a Syntax) -> Result<Vec<Word<'a>>, AllocError>
     ensures { IfOk result (λ v. as_words v.items
         ≡ node_words (flat_terms (rule_terms syntax.now.spec.rules ++ syntax.now.spec.terms))) }
@@ -352,7 +351,7 @@ pub(crate) fn all_words<'a>(alloc: Global, syntax: &'a Syntax) -> Result<Vec<Wor
     node_words(alloc, &nodes)
 }
 
-/// The words of the terms to evaluate.
+/// Returns the words of the EVAL terms.
 pub(crate) fn evaluated_words<'a>(
     alloc: Global,
     syntax: &'a Syntax,
@@ -364,7 +363,7 @@ pub(crate) fn evaluated_words<'a>(
     node_words(alloc, &nodes)
 }
 
-/// The words of what a rule rewrites to, and of its conditions.
+/// Returns the words of a rule's right-hand side and conditions.
 pub(crate) fn right_words<'a>(
     alloc: Global,
     syntax: &'a Syntax,
@@ -379,7 +378,7 @@ pub(crate) fn right_words<'a>(
     node_words(alloc, &nodes)
 }
 
-/// The words of nodes.
+/// Returns the words of nodes.
 pub fn node_words<'a>(alloc: Global, nodes: &[Counted<'a>]) -> Result<Vec<Word<'a>>, AllocError>
     ensures { IfOk result (λ v. as_words v.items ≡ node_words (as_nodes nodes.now)) }
 {

@@ -6,8 +6,8 @@ use Rattle.rx_term.specs.declared.Term.{Term}
 use Rattle.rec_syntax.specs.Syntax.{Spec}
 use Rattle.rec_sorts.specs.Linked.{signature}
 use Rattle.rec_memo.proofs.KnownLemmas.{IsKnown-Grows}
-use Rattle.rec_engine.specs.declared.code.Code.{Code}
-use Rattle.rec_engine.specs.declared.pace.Pace.{Pace}
+use Rattle.rec_engine.specs.declared.compile.code.Code.{Code}
+use Rattle.rec_engine.specs.declared.heap.pace.Pace.{Pace}
 use Rattle.rec_engine.specs.declared.engine.prepared.Prepared.{Prepared}
 use Rattle.rec_engine.specs.Remembered.{IsResult}
 use Rattle.rec_engine.specs.Prepared.{FitsIn}

@@ -7,7 +7,7 @@ use Rattle.rx_term.specs.declared.Term.{Term}
 use Rattle.rx_term.specs.declared.faults.BankFault.{BankFault}
 use Rattle.rx_term.proofs.StoreLemmas.{Grows-made}
 use Rattle.rx_term.proofs.KeepLemmas.{Keeps-refl, Keeps-trans, Keeps-fewer, Keeps-Refuses, Keeps-after-refusal}
-use Rattle.rec_engine.specs.declared.pace.Pace.{Pace}
+use Rattle.rec_engine.specs.declared.heap.pace.Pace.{Pace}
 use Rattle.rec_engine.specs.Inner.Heap.{Keeping}
 use Rattle.rec_engine.specs.Inner.Pace.{KeepsKnown}
 use Rattle.rec_engine.proofs.KnownConstantLemmas.{known-trans, known-same, known-made, known-refused}

@@ -50,5 +50,6 @@ pub mod MakingLemmas
 pub mod CallLemmas
 pub mod SpelledLemmas
 pub mod RootLemmas
-pub mod DepthLemmas
+pub mod ControlLemmas
+pub mod LimitLemmas
 pub mod BankLemmas

@@ -6,8 +6,8 @@ use Rattle.rx_term.specs.Steps.{ProtectsOrRefuses, with_count}
 use Rattle.rx_term.specs.declared.Term.{Term}
 use Rattle.rx_term.specs.declared.faults.RootsFull.{RootsFull}
 use Rattle.rec_syntax.specs.Syntax.{Spec}
-use Rattle.rec_engine.specs.declared.code.Code.{Code}
-use Rattle.rec_engine.specs.declared.pace.Pace.{Pace}
+use Rattle.rec_engine.specs.declared.compile.code.Code.{Code}
+use Rattle.rec_engine.specs.declared.heap.pace.Pace.{Pace}
 use Rattle.rec_engine.specs.Turn.{Ready}
 
 pub ready-counted : (y : Spec) (c : Code) (w new : Store) (pace : Pace) (t : Term) (n : ℕ) → new ≡ with_count w t n → Ready y c w pace → Ready y c new pace

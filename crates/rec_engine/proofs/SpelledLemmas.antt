@@ -23,7 +23,7 @@ use Rattle.rec_sorts.specs.declared.letters.Meaning.TheVariants.{Symbol}
 use Rattle.rec_sorts.proofs.GivenLetterLemmas.{node_named, named-backwards}
 use Rattle.rec_match.proofs.FactLemmas.{facts}
 use Rattle.rec_match.proofs.LetterLemmas.{IsFilledName}
-use Rattle.rec_engine.specs.declared.cells.EngineFault.{EngineFault}
+use Rattle.rec_engine.specs.declared.engine.errors.EngineFault.{EngineFault}
 use Rattle.rec_engine.specs.Engine.{IsGround, IsGiven, Spells}
 use Rattle.rec_engine.specs.Inner.Given.{IsNode}
 use Rattle.rec_engine.specs.Inner.Made.{MakesOne}

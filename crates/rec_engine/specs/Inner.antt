@@ -1,4 +1,4 @@
--- What the proofs speak of inside this crate: no public contract cites it.
+-- Definitions that only proofs and contracts inside this crate use.
 pub mod Answered
 pub mod Building
 pub mod Compiled

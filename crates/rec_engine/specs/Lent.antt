@@ -1,4 +1,4 @@
--- What is made on top of a stack of references that is lent.
+-- Terms that are made on a borrowed stack.
 use Rattle.std.specs.Prelude.{ℕ, ◌-◌, ◌≡◌, List, [], ◌∷◌, ◌++◌, Some, length, take, drop}
 use Rattle.rx_term.specs.Store.{Store, tree_at}
 use Rattle.rx_term.specs.Walks.{held_trees}
@@ -6,7 +6,7 @@ use Rattle.rx_term.specs.declared.Term.{Term}
 use Rattle.rec_syntax.specs.Syntax.{Spec}
 use Rattle.rec_engine.specs.Machine.{called}
 
--- the application of a symbol to the references on top, so many, takes their place
+-- IsAppliedOn: the `count` references on top were replaced by the application of a symbol to them
 pub record IsAppliedOn (y : Spec) (old new : Store) (f count : ℕ) (stack stack' : List Term)
     : Type 0 where
   pub top : Term

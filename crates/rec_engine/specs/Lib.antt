@@ -5,7 +5,8 @@ pub mod Cells
 pub mod Machine
 pub mod Runs
 pub mod Turn
-pub mod Depth
+pub mod Limits
+pub mod Control
 pub mod Engine
 pub mod Lent
 pub mod Prepared

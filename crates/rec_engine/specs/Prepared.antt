@@ -1,4 +1,4 @@
--- What is seen of an engine without its bank.
+-- The contents of an engine without its store.
 use Rattle.rx_term.specs.Store.{Store}
 use Rattle.rec_syntax.specs.Syntax.{Spec}
 use Rattle.rec_memo.specs.Pairs.{Pairs}
@@ -6,17 +6,19 @@ use Rattle.rec_engine.specs.Turn.{Ready}
 use Rattle.rec_engine.specs.declared.engine.Options.{Options}
 use Rattle.rec_engine.specs.declared.engine.prepared.Prepared.{Prepared}
 
--- what is evaluated, how, and what is remembered
+-- spec_of p: the specification
 abbrev pub spec_of : Prepared → Spec
 spec_of p = p.checked.spec
 
+-- options_of p: the settings
 abbrev pub options_of : Prepared → Options
 options_of p = p.options
 
+-- memo_of p: the memoized results
 abbrev pub memo_of : Prepared → Pairs
 memo_of p = p.pace.memo
 
--- its code is that of the specification, whose symbols this bank has, and what it remembers of the
--- bank's terms is right
+-- FitsIn w p: the code is that of the specification, whose symbols the store has, and all memoized
+-- results and constants are correct for the store
 pub record FitsIn (w : Store) (p : Prepared) : Type 0 where
   pub ready : Ready (spec_of p) p.code w p.pace

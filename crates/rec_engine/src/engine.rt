@@ -1,11 +1,17 @@
-//! The engine: a bank, a specification, and what is evaluated over them.
+//! The engine: a specification, a term store, and the evaluation of terms.
 
-mod calling;
+mod calls;
+pub(crate) mod counting;
+pub(crate) mod errors;
+mod evaluation;
 mod lent;
-mod normalising;
+pub(crate) mod limits;
+mod parts;
 mod prepared;
+mod shorthand;
+pub(crate) mod watch;
 
-ghost use Rattle.std.specs.Prelude.{◌≡◌, ◌≢◌, ◌<◌, ◌-◌, [], Some, Err, IfErr, IfOk, IsSome};
+ghost use Rattle.std.specs.Prelude.{◌≡◌, ◌<◌, ◌-◌, [], Some, IfErr, IfOk, IsSome};
 ghost use Rattle.std.specs.Prelude.{Contains, length};
 ghost use Rattle.rx_term.specs.Tree.{Tree};
 ghost use Rattle.rx_term.specs.Store.{tree_at};
@@ -17,17 +23,16 @@ ghost use Rattle.rec_sorts.specs.Binding.{tree_of};
 ghost use Rattle.rec_match.specs.Next.{IsReady as IsMatcherOf};
 ghost use Rattle.rec_engine.specs.Machine.{IsCode};
 ghost use Rattle.rec_engine.specs.Constants.{KnowsNone};
-ghost use Rattle.rec_engine.specs.declared.cells.EngineFault.TheVariants.{Room};
 ghost use Rattle.rec_engine.specs.Cells.{RoomOnly};
 ghost use Rattle.rec_engine.specs.Engine.{AreInRange, SameEngine, IsGiven, eval_tree};
 ghost use Rattle.rec_engine.specs.Engine.{LetsGo, RemembersNothing, RoomOnlyFor};
 ghost use Rattle.rec_engine.specs.Engine.{Spells};
 
-use crate::cells::EngineFault;
-use crate::code::Op;
+use crate::compile::code::Op;
+use crate::engine::errors::EngineFault;
+use crate::engine::parts::Parts;
 use crate::heap::Heap;
-use crate::machine::Machine;
-use crate::parts::Parts;
+use crate::vm::Machine;
 pub use prepared::Prepared;
 use rec_match::Matcher;
 use rec_sorts::{Checked, Letter};
@@ -35,34 +40,43 @@ use rx_term::{RootsFull, Term, TermBank};
 use std::alloc::Global;
 use std::marker::Model;
 
-/// How an engine works.
+/// Settings of an engine.
 #[derive(Clone, Copy, PartialEq, Eq, Debug, Drop)]
 pub struct Options {
-    /// Entries of the memo, at most 1,048,576; none for 0.
+    /// Capacity of the memo table in results, at most 1,048,576; 0 turns it off.
     pub memo: u32,
-    /// After how many new cells the engine reclaims: from 1 to 1,073,741,824.
+    /// Collect garbage at the latest after this number of new cells, 1 to 1,073,741,824.
     pub reclaim_every: u32,
 }
 
-/// What a term comes to.
+/// The outcome of an evaluation.
 #[derive(Clone, Copy, PartialEq, Eq, Drop)]
 pub enum Outcome {
-    /// A value, and how many steps it took.
+    /// The normal form, and the number of steps that it took.
     Value { term: Term, steps: u64 },
-    /// More steps are needed than were given.
+    /// The step limit is too low.
     Limit,
 }
 
-/// Terms of one specification are evaluated over one bank. Each call of `eval_term` or `normalise`
-/// may reclaim: it keeps protected terms, and the term that it is given or answers, that one until
-/// the next such call.
+/// The end of an evaluation under a control.
+#[derive(Clone, Copy, PartialEq, Eq, Drop)]
+pub enum Controlled {
+    /// The evaluation was not stopped.
+    Ended(Outcome),
+    /// The control stopped the evaluation.
+    Stopped,
+}
+
+/// Evaluates terms of one specification over one term store. Each call of `eval_term` or
+/// `normalise` may collect garbage. It keeps protected terms, its argument and its result; the
+/// result is kept until the next such call.
 #[derive(Drop)]
 pub struct Engine<B: TermBank> {
     machine: Machine<B>,
     options: Options,
-    /// How many terms to evaluate there are.
+    /// The number of EVAL terms.
     terms: u32,
-    /// The ops of a given term's nodes, while they are found.
+    /// Scratch space for the instructions of an input term.
     found: Vec<Op>,
 }
 
@@ -82,13 +96,14 @@ impl<B: TermBank> Model for Engine<B> {
       memo = e.machine.heap.pace.memo;
       work = e.machine.heap.work.items;
       waiting = length e.machine.state.frames.items;
+      bound = e.machine.state.depth;
     } };
 
     ghost invariant = { λ e. (e.terms ≡ length e.machine.checked.spec.terms)
         × IsReady B.store e.machine };
 }
 
-/// After want of memory nothing is needed.
+/// Empties the value stack after an allocation has failed.
 fn let_go<T>(work: &mut Vec<Term>, answer: &Result<T, EngineFault>)
     ensures { LetsGo answer.now work.old.items work.new.items }
 {
@@ -97,32 +112,9 @@ fn let_go<T>(work: &mut Vec<Term>, answer: &Result<T, EngineFault>)
     }
 }
 
-impl<B: TermBank + Drop> Engine<B> {
-    /// An engine for a specification over a bank, which may get symbols and nothing else.
-    pub fn new(
-        alloc: Global,
-        checked: Checked,
-        bank: B,
-        options: Options,
-    ) -> Result<Engine<B>, EngineFault>
-        requires { AreInRange options }
-        ensures spec { IfOk result (λ e. e.spec ≡ checked.spec) }
-        ensures options { IfOk result (λ e. e.options ≡ options) }
-        ensures store { IfOk result (λ e. HasMoreSymbols (B.store bank) (B.store e.bank)) }
-        ensures memo { IfOk result (λ e. RemembersNothing options.memo e.memo) }
-        ensures work { IfOk result (λ e. e.work ≡ []) }
-        ensures fault { Err Room ≢ result }
-    {
-        match Engine::over(alloc, checked, bank, options) {
-            Ok(engine) => Ok(engine),
-            Err(_) => Err(EngineFault::Memory),
-        }
-    }
-}
-
 impl<B: TermBank> Engine<B> {
-    /// The same for a caller who wants the bank back: the error is want of memory, and hands back
-    /// the bank, which may have got symbols and nothing else.
+    /// Creates an engine for a specification over a term store. Only adds symbols to the store. The
+    /// only error is out of memory, which returns the store.
     pub fn over(
         alloc: Global,
         checked: Checked,
@@ -143,7 +135,7 @@ impl<B: TermBank> Engine<B> {
         }
     }
 
-    /// The engine of these parts.
+    /// Assembles an engine from its parts.
     fn assemble(
         alloc: Global,
         checked: Checked,
@@ -181,7 +173,8 @@ impl<B: TermBank> Engine<B> {
         }
     }
 
-    /// The bank, and what the last call of `eval_term` or `normalise` needed of it.
+    /// Returns the store, and the references that the last call of `eval_term` or `normalise`
+    /// needed.
     pub fn into_parts(self) -> (B, Vec<Term>)
         ensures bank { result.0 ≡ self.bank }
         ensures work { result.1.items ≡ self.work }
@@ -207,14 +200,14 @@ impl<B: TermBank> Engine<B> {
         (bank, work)
     }
 
-    /// How many terms to evaluate the specification has.
+    /// Returns the number of EVAL terms.
     pub fn eval_terms(&self) -> u32
         ensures { result ≡ length self.now.spec.terms }
     {
         self.terms
     }
 
-    /// The specification's term to evaluate of this number, from 0.
+    /// Returns the EVAL term with index `i`, counted from 0.
     pub fn eval_term(&mut self, i: u32) -> Result<Term, EngineFault>
         requires { i < length self.old.spec.terms }
         ensures same { SameEngine self.old self.new }
@@ -238,8 +231,8 @@ impl<B: TermBank> Engine<B> {
         made
     }
 
-    /// The term of some numbered words, as `check_terms` and `term_letters` give them for a term
-    /// that keeps the rules; it has no annotations.
+    /// Makes the term of some postfix items, as `check_terms` and `term_letters` return them for an
+    /// accepted input term. The term has no annotations.
     pub fn given_term(&mut self, letters: &[Letter]) -> Result<Term, EngineFault>
         requires { (u : Tree) × Spells self.old.spec letters.now u }
         ensures same { SameEngine self.old self.new }
@@ -262,7 +255,7 @@ impl<B: TermBank> Engine<B> {
         made
     }
 
-    /// Counts a term as a root once more, so that each later call keeps it.
+    /// Protects a term, so that each later call keeps it. Protections are counted.
     pub fn protect(&mut self, t: Term) -> Result<(), RootsFull>
         requires { IsSome (tree_at (B.store self.old.bank) t) }
         ensures same { SameEngine self.old self.new }
@@ -274,7 +267,7 @@ impl<B: TermBank> Engine<B> {
         self.machine.heap.bank.protect(t)
     }
 
-    /// Counts a term as a root once less.
+    /// Removes one protection of a term.
     pub fn unprotect(&mut self, t: Term)
         requires { 0 < (B.store self.old.bank).roots t.0 }
         ensures same { SameEngine self.old self.new }
@@ -286,21 +279,21 @@ impl<B: TermBank> Engine<B> {
         self.machine.heap.bank.unprotect(t)
     }
 
-    /// Which rule matches.
+    /// Returns the matcher of the rules.
     pub fn matcher(&self) -> &Matcher
         ensures { IsMatcherOf self.now.spec (B.store self.now.bank) result.now }
     {
         &self.machine.code.matcher
     }
 
-    /// The specification.
+    /// Returns the specification.
     pub fn checked(&self) -> &Checked
         ensures { result.now.spec ≡ self.now.spec }
     {
         &self.machine.checked
     }
 
-    /// The bank.
+    /// Returns the term store.
     pub fn bank(&self) -> &B
         ensures { result.now ≡ self.now.bank }
     {

@@ -1,20 +1,23 @@
 -- The trace of a term from its beginning.
-use Rattle.std.proofs.Common.{sym, ap₂, subst, ◌∙◌}
+use Rattle.std.proofs.Common.{ap, sym, ap₂, subst, ◌∙◌}
 use Rattle.std.proofs.lemmas.Option.{slice_get-get_or}
 use Rattle.std.specs.Prelude.{ℕ, ◌≡◌, ◌<◌, List, ◌++◌, Option, IfSome, length, slice_get}
 use Rattle.rx_term.specs.Store.{Store}
+use Rattle.rx_term.specs.Tree.{Tree}
 use Rattle.rx_text.specs.declared.output.Output.{Output}
 use Rattle.rec_syntax.specs.Syntax.{Apply, Spec, Term, nameless}
 use Rattle.rec_syntax.specs.Syntax as syntax
 use Rattle.rec_sorts.specs.Binding.{tree_of}
 use Rattle.rx_run.specs.declared.ending.RunFault.{RunFault}
-use Rattle.rec_run.specs.Output.{Task, notes_text}
+use Rattle.rec_run.specs.Output.{Task, is_limited, notes_text}
 use Rattle.rec_run.specs.Reading.{term_at}
-use Rattle.rec_trace.specs.Trace.{Trace}
+use Rattle.rec_run.specs.declared.options.ValueForm.TheVariants.{Plain}
+use Rattle.rec_trace.specs.Trace.{Trace, Traced}
+use Rattle.rec_trace.proofs.TraceLemmas.{trace_law}
 use Rattle.rec_trace.specs.Tracing.{Stands, rest_of, whole_of}
 use Rattle.rec_trace.specs.declared.tracer.Tracer.{Tracer}
 use Rattle.rec_look.specs.Inner.Pages.{Breaks, Prints}
-use Rattle.rec_look.specs.Inner.Telling.{Begins, IsWithin, first_text, told}
+use Rattle.rec_look.specs.Inner.Telling.{Begins, IsWithin, first_text, is_passed, told}
 use Rattle.rec_look.specs.Traces.{Shown, task_text}
 use Rattle.rec_look.proofs.PageLemmas.{breaks-before, breaks-behind, prints-both}
 use Rattle.rec_look.proofs.TellingLemmas.{task-told, trace-within}
@@ -59,3 +62,9 @@ module _ {W : Type 0} (contents : W → Option (List ℕ)) (source : List ℕ) (
       → Breaks contents b c l (told source shown n notes (rest_of y w tracer)) f → Breaks contents a c k (task_text source y shown n task) f
   task-breaks-rest a b c k l f h s = subst (λ text. Breaks contents a c k text f) text-is
       (breaks-behind contents a b c k l (first_text shown (whole_of y w tracer)) (told source shown n notes (rest_of y w tracer)) f h s)
+
+-- a trace passes the limit as evaluation does
+pub begun-limited : (y : Spec) (w : Store) (n : ℕ) (tracer : Tracer) (task : Task) → Begins y w n tracer task.term
+    → is_passed (rest_of y w tracer).outcome ≡ is_limited y Plain n task
+begun-limited y w n tracer task b =
+    ap (λ (t : Traced Tree). is_passed t.outcome) b.trace ∙ ap is_passed (trace_law y b.stands.order.good n task.term).0

@@ -1,34 +1,47 @@
 -- Texts that are written one behind the other.
-use Rattle.std.proofs.Common.{refl, sym, ap, subst, ◌∙◌, arith, append_assoc}
-use Rattle.std.specs.Prelude.{ℕ, ◌≡◌, ◌+◌, List, [], ◌++◌, Option}
-use Rattle.rx_text.specs.Output.{contents_of}
+use Rattle.std.proofs.Common.{false, refl, sym, ap, ap₂, subst, ◌∙◌, arith, append-nil, append_assoc}
+use Rattle.std.proofs.lemmas.Result.{IfErr-weaker}
+use Rattle.std.specs.Prelude.{ℕ, ◌≡◌, ◌+◌, ◌||◌, List, [], ◌++◌, IfErr, IsErrAnd, Option, Result, Err}
+use Rattle.rx_term.specs.Store.{Store}
+use Rattle.rx_text.specs.Output.{IsSameOutput, contents_of}
+use Rattle.rec_memo.specs.Pairs.{Pairs}
+use Rattle.rec_run.specs.EvaluatedLines.{ReportsOutput, of_engine}
+use Rattle.rec_run.specs.Run.{HasRoom}
+use Rattle.rec_trace.specs.Faults.{RoomOnlyIfFull}
 use Rattle.rx_text.specs.declared.output.Output.{Output}
 use Rattle.rx_text.proofs.AppendingLemmas.{appends_both, appends_same}
 use Rattle.rx_run.specs.Bytes.{newlines}
-use Rattle.rx_run.specs.Run.{Reports, ReportsAfter, Stops}
+use Rattle.rx_run.specs.Run.{Reports, ReportsAfter, Stops, StopsUnwritten}
+use Rattle.rx_run.specs.Streams.{ReportsWrite, is_read, is_write}
 use Rattle.rx_run.specs.declared.ending.RunFault.{RunFault}
 use Rattle.rx_run.specs.declared.ending.RunFault.TheVariants as fault
+use Rattle.rx_run.proofs.ErrorLemmas.{if_err_at}
 use Rattle.rx_run.proofs.NewlineLemmas.{newlines-append}
-use Rattle.rec_engine.specs.declared.cells.EngineFault.{EngineFault}
-use Rattle.rec_engine.specs.declared.cells.EngineFault.TheVariants as engine
-use Rattle.rec_look.specs.Inner.Pages.{Breaks, Prints, fault_after}
+use Rattle.rx_run.proofs.ReportLemmas.{returns_no, returns_on}
+use Rattle.rec_run.proofs.DepthLemmas.{gave_up-reports}
+use Rattle.rec_engine.specs.declared.engine.errors.EngineFault.{EngineFault}
+use Rattle.rec_engine.specs.declared.engine.errors.EngineFault.TheVariants as engine
+use Rattle.rec_look.specs.Inner.Pages.{Breaks, FullIfRoom, IsPageCause, IsTraceCause, Prints, ReportsPage}
 
 reports-later : (f : RunFault) (lines more : ℕ) (before written : List ℕ) → more ≡ lines + newlines before → ReportsAfter more f written
     → ReportsAfter lines f (before ++ written)
 reports-later (fault.Memory k) lines more before written e h = let both = newlines-append before written in omega (arith, e, h, both)
 reports-later (fault.Room k) lines more before written e h = let both = newlines-append before written in omega (arith, e, h, both)
+reports-later (fault.Deep k) lines more before written e h = let both = newlines-append before written in omega (arith, e, h, both)
 reports-later fault.Read lines more before written e h = h
 reports-later fault.Write lines more before written e h = tt
 
 reports-first : (f : RunFault) (written : List ℕ) → ReportsAfter 0 f written → Reports f written
 reports-first (fault.Memory k) written h = omega (arith, h)
 reports-first (fault.Room k) written h = omega (arith, h)
+reports-first (fault.Deep k) written h = omega (arith, h)
 reports-first fault.Read written h = absurd h
 reports-first fault.Write written h = tt
 
-reports-none : (f : EngineFault) (lines : ℕ) → ReportsAfter lines (fault_after f lines) []
+reports-none : (f : EngineFault) (lines : ℕ) → ReportsAfter lines (of_engine f lines) []
 reports-none engine.Memory lines = omega arith
 reports-none engine.Room lines = omega arith
+reports-none engine.Deep lines = omega arith
 
 module _ {W : Type 0} (contents : W → Option (List ℕ)) where
   -- nothing was written
@@ -68,7 +81,7 @@ module _ {W : Type 0} (contents : W → Option (List ℕ)) where
   }
 
   -- nothing was written where an engine gave up
-  pub breaks-engine : (out : Output W) (lines : ℕ) (text : List ℕ) (f : EngineFault) → Breaks contents out out lines text (fault_after f lines)
+  pub breaks-engine : (out : Output W) (lines : ℕ) (text : List ℕ) (f : EngineFault) → Breaks contents out out lines text (of_engine f lines)
   breaks-engine out lines text f = record {
     written = [];
     appended = appends_same (contents_of contents out);
@@ -77,14 +90,102 @@ module _ {W : Type 0} (contents : W → Option (List ℕ)) where
         reports-none f lines;
   }
 
-  pub breaks-after : (out : Output W) (lines : ℕ) (text : List ℕ) (f : EngineFault) (fault : RunFault) → fault ≡ fault_after f lines
+  pub breaks-after : (out : Output W) (lines : ℕ) (text : List ℕ) (f : EngineFault) (fault : RunFault) → fault ≡ of_engine f lines
       → Breaks contents out out lines text fault
   breaks-after out lines text f fault e = subst (λ z. Breaks contents out out lines text z) (sym e) (breaks-engine out lines text f)
 
   pub breaks-memory : (out : Output W) (lines : ℕ) (text : List ℕ) → Breaks contents out out lines text (fault.Memory lines)
   breaks-memory out lines text = breaks-engine out lines text engine.Memory
 
+  -- all was written before memory ran out
+  pub breaks-whole : (a b : Output W) (k l : ℕ) (text : List ℕ) → Prints contents a b k l text → Breaks contents a b k text (fault.Memory l)
+  breaks-whole a b k l text h = record { written = text; appended = h.written; front = ([], sym (append-nil text)); reported = h.counted }
+
   -- the same where nothing was written before
   pub breaks-first : (a b : Output W) (text : List ℕ) (f : RunFault) → Breaks contents a b 0 text f
       → Stops f text (contents_of contents a) (contents_of contents b)
   breaks-first a b text f s = record { written = s.written; appended = s.appended; front = s.front; reported = reports-first f s.written s.reported }
+
+-- ---- why a trace stopped
+
+-- why a text was not written whole is why a trace stopped
+cause-trace : (w : Store) (m : Pairs) (f : RunFault) → IsPageCause f → IsTraceCause w m f
+cause-trace w m (fault.Memory lines) h = tt
+cause-trace w m (fault.Room lines) h = absurd h
+cause-trace w m (fault.Deep lines) h = absurd h
+cause-trace w m fault.Read h = absurd h
+cause-trace w m fault.Write h = tt
+
+-- no reader's fault is
+trace_no_read : (w : Store) (m : Pairs) (f : RunFault) → IsTraceCause w m f → is_read f ≡ false
+trace_no_read w m (fault.Memory lines) h = refl
+trace_no_read w m (fault.Room lines) h = refl
+trace_no_read w m (fault.Deep lines) h = refl
+trace_no_read w m fault.Read h = absurd h
+trace_no_read w m fault.Write h = refl
+
+-- of want of cells, that the store is full
+full-by : (w : Store) (m : Pairs) (f : RunFault) → IsTraceCause w m f → FullIfRoom w f
+full-by w m (fault.Memory lines) h = tt
+full-by w m (fault.Room lines) h = h.0
+full-by w m (fault.Deep lines) h = tt
+full-by w m fault.Read h = tt
+full-by w m fault.Write h = tt
+
+pub trace-full : {T : Type 0} (w : Store) (m : Pairs) (r : Result T RunFault) → IfErr r (IsTraceCause w m) → IfErr r (FullIfRoom w)
+trace-full w m r h = IfErr-weaker r _ _ (full-by w m) h
+
+module _ {W : Type 0} (w : Store) (m : Pairs) (old new : Output W) where
+  -- a text was written
+  pub page-trace : {T : Type 0} (r : Result T RunFault) → ReportsPage old new r → ReportsWrite old new r × IfErr r (IsTraceCause w m)
+  page-trace r h = (h.0, IfErr-weaker r _ _ (cause-trace w m) h.1)
+
+  -- what a trace reports of the streams
+  pub trace-output : {T : Type 0} (r : Result T RunFault) → ReportsWrite old new r × IfErr r (IsTraceCause w m) → ReportsOutput old new r
+  trace-output r h = (h.0, returns_no is_read (IsTraceCause w m) r (trace_no_read w m) h.1)
+
+  -- a part of a trace was written before one that was not
+  pub trace-on : {T : Type 0} (mid : Output W) (r : Result T RunFault) (f : RunFault) → IsErrAnd r (λ e. e ≡ f)
+      → IsSameOutput old mid × (mid.refused ≡ old.refused)
+      → (IsSameOutput mid new × (new.refused ≡ (is_write f || mid.refused))) × IsTraceCause w m f
+      → ReportsWrite old new r × IfErr r (IsTraceCause w m)
+  trace-on mid r f is so_far h = (
+    (h.0.0 ∙ so_far.0, h.0.1 ∙ ap₂ (λ a b. a || b) (sym (returns_on is_write r f is)) so_far.1),
+    if_err_at r (IsTraceCause w m) f is h.1,
+  )
+
+  -- or before a text that was not
+  pub fault-trace : {T : Type 0} (mid : Output W) (r : Result T RunFault) (f : RunFault) → IsErrAnd r (λ e. e ≡ f)
+      → IsSameOutput old mid × (mid.refused ≡ old.refused)
+      → (IsSameOutput mid new × (new.refused ≡ (is_write f || mid.refused))) × IsPageCause f
+      → ReportsWrite old new r × IfErr r (IsTraceCause w m)
+  fault-trace mid r f is so_far h = trace-on mid r f is so_far (h.0, cause-trace w m f h.1)
+
+-- the engine gave up
+pub engine-trace : {W : Type 0} (out : Output W) (w : Store) (m : Pairs) (f : EngineFault) (lines : ℕ) (r : RunFault) → RoomOnlyIfFull {A = Unit {0}} w m (Err f)
+    → r ≡ of_engine f lines → (IsSameOutput out out × (out.refused ≡ (is_write r || out.refused))) × IsTraceCause w m r
+engine-trace out w m f lines r h e = ((gave_up-reports f lines r e out).0, subst (IsTraceCause w m) (sym e) (by f h))
+  where
+    by : (f : EngineFault) → RoomOnlyIfFull {A = Unit {0}} w m (Err f) → IsTraceCause w m (of_engine f lines)
+    by engine.Memory h = tt
+    by engine.Room h = h
+    by engine.Deep h = absurd h
+
+-- a fault that needs no cells needs no full store
+pub room-full : (w : Store) (f : RunFault) → HasRoom f → FullIfRoom w f
+room-full w (fault.Memory lines) h = tt
+room-full w (fault.Room lines) h = absurd h
+room-full w (fault.Deep lines) h = tt
+room-full w fault.Read h = tt
+room-full w fault.Write h = tt
+
+pub write-room : (f : RunFault) → f ≡ fault.Write → HasRoom f
+write-room f e = subst HasRoom (sym e) tt
+
+-- nor does one after which a text filled it
+pub unwritten-full : (old new : Store) (f : RunFault) → StopsUnwritten old new f → FullIfRoom new f
+unwritten-full old new (fault.Memory lines) h = tt
+unwritten-full old new (fault.Room lines) h = h.1.full
+unwritten-full old new (fault.Deep lines) h = tt
+unwritten-full old new fault.Read h = tt
+unwritten-full old new fault.Write h = tt

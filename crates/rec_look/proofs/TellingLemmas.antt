@@ -16,7 +16,7 @@ use Rattle.rec_engine.proofs.ValueTreeLemmas.{applied_unannotated, value_is_appl
 use Rattle.rec_engine.specs.declared.engine.Outcome.{Outcome}
 use Rattle.rec_engine.specs.declared.engine.Outcome.TheVariants.{Value, Limit}
 use Rattle.rx_run.specs.Due.{steps_text}
-use Rattle.rec_run.specs.EvaluatedLines.{HoldsValue}
+use Rattle.rec_run.specs.EvaluatedLines.{HoldsValue, is_over}
 use Rattle.rec_run.specs.GivenTerms.{item_at}
 use Rattle.rec_run.specs.Output.{Task, notes_text}
 use Rattle.rec_run.proofs.SpecLineLemmas.{canon_annotated}
@@ -25,7 +25,7 @@ use Rattle.rec_trace.specs.States.{firing_then}
 use Rattle.rec_trace.specs.Trace.{Arrives, Firing, Follow, Trace, Traced, quiet}
 use Rattle.rec_trace.proofs.TraceLemmas.{trace_law}
 use Rattle.rec_look.specs.Picks.{shown_lines}
-use Rattle.rec_look.specs.Inner.Telling.{IsEnd, IsWithin, end_line, end_text, first_text, told}
+use Rattle.rec_look.specs.Inner.Telling.{IsEnd, IsWithin, end_line, end_text, first_text, is_passed, told}
 use Rattle.rec_look.specs.Traces.{Shown, first_lines, picked_lines, task_text}
 
 -- ---- no more is left than there was at first
@@ -118,3 +118,7 @@ task-told source y shown n task good =
     ∙ append_assoc (joined first) (joined steps) last
     ∙ ap₂ (λ (a b : List ℕ). a ++ (joined steps ++ b)) (first-joined shown (tree_of task.term))
     (sym (value-end y shown.counted n task.term task.notes r.outcome (sym (trace_law y good n task.term).0)))
+
+pub end-passed : (w : Store) (n : ℕ) (o : evaluation.Outcome Tree) (outcome : Outcome) → IsEnd w n o outcome → is_over outcome ≡ is_passed o
+end-passed w n o (Value t steps) (v, left, held, is, spent) = ap is_passed (sym is)
+end-passed w n o Limit is = ap is_passed (sym is)

@@ -1,4 +1,4 @@
--- What the proofs speak of inside this crate: no public contract cites it.
+-- Definitions for the proofs of this crate: no public contract cites them.
 pub mod Due
 pub mod Pages
 pub mod Telling

@@ -1,7 +1,7 @@
--- What a run of traces is to write, and how it ends.
---     task_text source y shown n task   all that is written for a term
---     traces source y given shown n     the traces of a specification's own terms and of given ones
---     IsTraceDueFor shown n texts d     what is due for a specification and terms
+-- The specified output of a run of traces, and how the run ends.
+--     task_text source y shown n task   the text that is written for a term
+--     traces source y given shown n     the traces of the EVAL terms and of the input terms
+--     IsTraceDueFor shown n texts d     the output that is specified for the texts of a run
 use Rattle.std.specs.Prelude.{ℕ, ◌≡◌, ◌<◌, ◌^◌, ◌||◌, Bool, true, false, not, List, [], ◌∷◌, ◌++◌}
 use Rattle.std.specs.Prelude.{Option, Some, None, filter, flat_map, length, map, nat_eq}
 use Rattle.rx_term.specs.Tree.{Tree}
@@ -18,15 +18,15 @@ use Rattle.rec_trace.specs.Trace.{Firing, Trace}
 use Rattle.rec_look.specs.Picks.{Picks, all_picked, is_picked, picks_by, shown_lines}
 use Rattle.rec_look.specs.declared.options.TraceOptions.{TraceOptions}
 
--- how traces look: whether the whole term stands behind each firing, whether the steps spent do,
--- how many bytes a term has at most, and which firings are told
+-- the form of traces: whether whole terms are shown, whether the steps spent are, the largest
+-- number of bytes of a term, and the selection of rewrites
 pub record Shown : Type 0 where
   pub whole : Bool
   pub counted : Bool
   pub width : Option ℕ
   pub picked : Picks
 
--- as these options say
+-- the form of traces by these options
 abbrev pub shown_by : TraceOptions → Shown
 shown_by o = record {
   whole = o.whole;
@@ -35,26 +35,27 @@ shown_by o = record {
   picked = picks_by o.picked;
 }
 
--- the line of a firing
+-- the line of a rewrite
 abbrev pub step_line : List ℕ → Shown → ℕ → Firing → List ℕ
 step_line source shown n f = elim shown.whole [
   | true ↦ whole_line source shown.counted shown.width n f
   | false ↦ firing_line source shown.counted shown.width n f
 ]
 
--- the lines of the firings that are picked
+-- the lines of the selected rewrites
 abbrev pub picked_lines : List ℕ → Shown → ℕ → List Firing → List (List ℕ)
 picked_lines source shown n fs =
     map (step_line source shown n) (filter (is_picked source shown.picked) fs)
 
--- with whole terms the line of the term itself, at `0:0:`
+-- the line of the term itself, at `0:0:`, if whole terms are shown
 abbrev pub first_lines : Shown → Tree → List (List ℕ)
 first_lines shown u = elim shown.whole [
   | true ↦ whole_text 0 0 false shown.width 0 u ∷ []
   | false ↦ []
 ]
 
--- the lines of a term: those of rules that fire, and that of what it comes to
+-- the lines of a term: itself if whole terms are shown, its rewrites, and its value or the step
+-- limit
 abbrev pub task_lines : List ℕ → Spec → Shown → ℕ → Task → List (List ℕ)
 task_lines source y shown n task =
     let trace = Trace y n task.term in
@@ -62,46 +63,47 @@ task_lines source y shown n task =
     ++ shown_lines shown.picked (picked_lines source shown n trace.firings)
     ++ value_line shown.counted n task.notes trace.outcome ∷ []
 
--- all that is written for a term
+-- the text that is written for a term
 abbrev pub task_text : List ℕ → Spec → Shown → ℕ → Task → List ℕ
 task_text source y shown n task = joined (task_lines source y shown n task)
 
--- the lines of the specification's own terms, and then of the given ones, each with the whole
--- budget
+-- the lines of the EVAL terms and then of the input terms, each with the whole step limit
 abbrev pub trace_lines : List ℕ → Spec → List Tree → Shown → ℕ → List (List ℕ)
 trace_lines source y given shown n = flat_map (task_lines source y shown n) (tasks y given)
 
--- all of them, one behind the other
+-- the text of all these lines
 abbrev pub traces : List ℕ → Spec → List Tree → Shown → ℕ → List ℕ
 traces source y given shown n = joined (trace_lines source y given shown n)
 
--- what is due after the verdict on the specification alone: a refusal as evaluation writes it
+-- the output after the verdict on the specification alone; an error is written as evaluation writes
+-- it
 abbrev pub trace_due_of_spec : List ℕ → Shown → ℕ → Verdict → Due
 trace_due_of_spec source shown n (Good y) = done (traces source y [] shown n)
 trace_due_of_spec source shown n v = due_of_spec (bare shown.counted) n v
 
--- what is due after the verdict on the terms: a refusal as evaluation writes it
+-- the output after the verdict on the input terms; an error is written as evaluation writes it
 abbrev pub trace_due_of_terms : List ℕ → Spec → Shown → ℕ → TermsVerdict → Due
 trace_due_of_terms source y shown n (GoodTerms ts) = done (traces source y ts shown n)
 trace_due_of_terms source y shown n v = due_of_terms y (bare shown.counted) n v
 
--- what is due after the verdict on the specification: the terms are asked only of a good one
+-- the output after the verdict on the specification; input terms are checked only after a good one
 abbrev pub IsTraceDueAfter : List ℕ → Verdict → Option (List ℕ) → Shown → ℕ → Due → Type 0
 IsTraceDueAfter source (Good y) (Some terms) shown n d = (v : TermsVerdict)
     × IsTermsVerdict y terms v × (d ≡ trace_due_of_terms source y shown n v)
 IsTraceDueAfter source v terms shown n d = d ≡ trace_due_of_spec source shown n v
 
--- what is due for the texts of a run
+-- the output that is specified for the texts of a run
 abbrev pub IsTraceDueFor : Shown → ℕ → Texts → Due → Type 0
 IsTraceDueFor shown n texts d = (v : Verdict) × SpecVerdict texts.spec v
     × IsTraceDueAfter texts.spec v texts.terms shown n d
 
--- for the texts of a run one thing is due at most
+-- the texts of a run have at most one specified output
 abbrev pub OneTraceDue : Type 0
 OneTraceDue = (shown : Shown) (n : ℕ) (texts : Texts) (d e : Due)
     → IsTraceDueFor shown n texts d → IsTraceDueFor shown n texts e → d ≡ e
 
--- where nothing is picked, the lines of a term are those of its trace, each firing's among them
+-- if all rewrites are selected, the lines of a term are those of its trace, with one for each
+-- rewrite
 abbrev pub WholeTraceLaw : Type 0
 WholeTraceLaw = (source : List ℕ) (y : Spec) (shown : Shown) (n : ℕ) (task : Task)
     → shown.picked ≡ all_picked → task_lines source y shown n task
@@ -120,7 +122,7 @@ ValuesLaw = (source : List ℕ) (y : Spec) (given : List Tree) (shown : Shown) (
     (trace_lines source y given shown n)
     ≡ each_line y given (bare shown.counted) n
 
--- where neither the first firings nor the last are asked for, those that begin with no digit are
+-- without `first` and `last`, the lines that begin with no digit are the lines of evaluation
 abbrev pub DigitsLaw : Type 0
 DigitsLaw = (source : List ℕ) (y : Spec) (given : List Tree) (shown : Shown) (n : ℕ)
     → shown.picked.first ≡ None → shown.picked.last ≡ None

@@ -1,16 +1,21 @@
-//! What is due for the texts that were read.
+//! The specified output for the texts that were read.
 
-ghost use Rattle.std.specs.Prelude.{◌≡◌, ℕ, IfErr, IfOk, List, None, OnErr, OnOk, Some};
+ghost use Rattle.std.specs.Prelude.{◌≡◌, ℕ, IfErr, IfOk, List, OnOk};
 ghost use Rattle.std.specs.Option.{ForSome};
 ghost use Rattle.rx_term.specs.Tree.{Tree};
-ghost use Rattle.rx_text.specs.Output.{IsSameOutput, IsWritable, Writes, contents_of};
+ghost use Rattle.rx_text.specs.Output.{Writes, contents_of};
 ghost use Rattle.rx_run.specs.Refusals.{ending_of};
 ghost use Rattle.rx_run.specs.Run.{Stops};
-ghost use Rattle.rx_run.specs.Streams.{TellsWrite};
+ghost use Rattle.rec_engine.specs.Engine.{RemembersNothing};
+ghost use Rattle.rec_run.specs.EvaluatedLines.{ReportsOutput, engine_options};
 ghost use Rattle.rec_run.specs.GivenTerms.{HoldsTerms, IsReady, IsRefused, given_by};
+ghost use Rattle.rec_run.specs.Output.{limit_lines};
+ghost use Rattle.rec_run.specs.Reports.{job_limits};
 ghost use Rattle.rec_run.specs.Run.{HasRoom};
-ghost use Rattle.rec_look.specs.Inner.Due.{trace_due};
+ghost use Rattle.rec_run.specs.declared.options.ValueForm.TheVariants.{Plain};
+ghost use Rattle.rec_look.specs.Inner.Due.{job_traces, trace_due};
 ghost use Rattle.rec_look.specs.Inner.Telling.{AreGivenTerms, IsTelling};
+ghost use Rattle.rec_look.specs.Inner.Pages.{FullIfRoom};
 ghost use Rattle.rec_look.specs.Traces.{shown_by, traces};
 
 use crate::given::{GivenTerms, given_terms};
@@ -18,106 +23,134 @@ use crate::options::TraceOptions;
 use crate::telling::Telling;
 use crate::terms::write_traces;
 use rec_engine::Engine;
-use rec_run::{Job, engine_over};
+use rec_run::{Job, RunReport, end_run, engine_over, refuse};
 use rec_sorts::Checked;
 use rec_trace::rule_spots;
-use rx_run::{Ending, Reading, RunFault, write_refusal_to};
+use rx_run::{Reading, RunFault};
 use rx_term::{Term, TermBank};
-use rx_text::{Output, RefusedWrite};
+use rx_text::Output;
 use std::alloc::{AllocError, Global};
 use std::io::Write;
 
-/// Writes what is due for the texts that were read, and flushes: how the run ends.
+/// The result of traces over a store, with the store.
+#[derive(Drop)]
+pub(crate) struct Left<T, B> {
+    /// The result, or the error that stopped them.
+    pub(crate) end: Result<T, RunFault>,
+    /// The store.
+    pub(crate) bank: B,
+}
+
+impl<T, B: Drop> Left<T, B> {
+    /// Returns the result of the traces, and drops the store.
+    pub(crate) fn into_end(self) -> Result<T, RunFault>
+        ensures { result ≡ self.end }
+    {
+        let Left { end, bank } = self;
+        drop(bank);
+        end
+    }
+}
+
+/// Writes the specified output for the texts that were read, flushes, and returns the report of the
+/// run.
 pub(crate) fn answer<B: TermBank + Drop, W: Write>(
     alloc: Global,
     bank: B,
     reading: Reading<Job>,
     out: &mut Output<'_, W>,
     options: TraceOptions<'_>,
-) -> Result<Ending, RunFault>
+) -> Left<RunReport, B>
     requires unrooted { (t : ℕ) → (B.store bank).roots t ≡ 0 }
     requires ready { IsReady (B.store bank) reading }
-    requires open { IsWritable out.old }
-    ensures ends { IfOk result (λ ending. ending ≡ ending_of reading) }
-    ensures ok { OnOk result (Writes W.contents out.old out.new
+    ensures ends { IfOk result.end (λ report. report.ending ≡ ending_of reading) }
+    ensures limits { IfOk result.end (λ report. report.limit_lines
+        ≡ job_limits (B.store bank) Plain options.entry.run.steps reading) }
+    ensures ok { OnOk result.end (Writes W.contents out.old out.new
         (trace_due (B.store bank) (shown_by options.entry) options.entry.run.steps reading).text) }
-    ensures err { IfErr result (λ fault. Stops fault
+    ensures err { IfErr result.end (λ fault. Stops fault
         (trace_due (B.store bank) (shown_by options.entry) options.entry.run.steps reading).text
         (contents_of W.contents out.old) (contents_of W.contents out.new)) }
-    ensures cells { IsRefused reading → IfErr result HasRoom }
-    ensures same_output { IsSameOutput out.old out.new }
+    ensures room { IfErr result.end (FullIfRoom (B.store result.bank)) }
+    ensures cells { IsRefused reading → IfErr result.end HasRoom }
+    ensures reports { ReportsOutput out.old out.new result.end }
 {
     let ending = reading.ending();
-    write_due(alloc, bank, reading, out, options)?;
-    out.flush()?;
-    Ok(ending)
+    let Left { end: written, bank } = write_due(alloc, bank, reading, out, options);
+    Left {
+        end: end_run(written, ending, out),
+        bank,
+    }
 }
 
-/// Writes what is due.
+/// Writes the specified output, and returns the number of limit lines.
 fn write_due<B: TermBank + Drop, W: Write>(
     alloc: Global,
     bank: B,
     reading: Reading<Job>,
     out: &mut Output<'_, W>,
     options: TraceOptions<'_>,
-) -> Result<(), RunFault>
+) -> Left<u64, B>
     requires unrooted { (t : ℕ) → (B.store bank).roots t ≡ 0 }
     requires ready { IsReady (B.store bank) reading }
-    requires open { IsWritable out.old }
-    ensures ok { OnOk result (Writes W.contents out.old out.new
+    ensures limits { IfOk result.end (λ limits. limits
+        ≡ job_limits (B.store bank) Plain options.entry.run.steps reading) }
+    ensures ok { OnOk result.end (Writes W.contents out.old out.new
         (trace_due (B.store bank) (shown_by options.entry) options.entry.run.steps reading).text) }
-    ensures err { IfErr result (λ fault. Stops fault
+    ensures err { IfErr result.end (λ fault. Stops fault
         (trace_due (B.store bank) (shown_by options.entry) options.entry.run.steps reading).text
         (contents_of W.contents out.old) (contents_of W.contents out.new)) }
-    ensures cells { IsRefused reading → IfErr result HasRoom }
-    ensures same_output { IsSameOutput out.old out.new }
-    ensures cause { TellsWrite out.new result }
+    ensures room { IfErr result.end (FullIfRoom (B.store result.bank)) }
+    ensures cells { IsRefused reading → IfErr result.end HasRoom }
+    ensures reports { ReportsOutput out.old out.new result.end }
 {
     match reading {
-        Reading::Refused(refusal) => match write_refusal_to(refusal, out) {
-            Ok(()) => Ok(()),
-            Err(RefusedWrite) => Err(RunFault::Write),
+        Reading::Refused(refusal) => Left {
+            end: refuse(refusal, out),
+            bank,
         },
-        Reading::Good(Job { checked, list }) => write_job(alloc, checked, bank, list, out, options),
+        Reading::Good(job) => write_job(alloc, job, bank, out, options),
     }
 }
 
-/// Writes the traces of good texts, whose given terms stand in a bank, over that bank.
+/// Writes the traces of accepted texts over the store that holds their input terms.
 fn write_job<B: TermBank + Drop, W: Write>(
     alloc: Global,
-    checked: Checked,
+    job: Job,
     bank: B,
-    list: Option<Term>,
     out: &mut Output<'_, W>,
     options: TraceOptions<'_>,
-) -> Result<(), RunFault>
+) -> Left<u64, B>
     requires unrooted { (t : ℕ) → (B.store bank).roots t ≡ 0 }
-    requires given { ForSome list (HoldsTerms checked.spec (B.store bank)) }
-    requires open { IsWritable out.old }
-    ensures ok { OnOk result (Writes W.contents out.old out.new
-        (traces checked.source checked.spec (given_by (B.store bank) list) (shown_by options.entry)
-        options.entry.run.steps)) }
-    ensures err { IfErr result (λ fault. Stops fault
-        (traces checked.source checked.spec (given_by (B.store bank) list) (shown_by options.entry)
-        options.entry.run.steps)
+    requires given { ForSome job.list (HoldsTerms job.checked.spec (B.store bank)) }
+    ensures limits { IfOk result.end (λ limits. limits ≡ limit_lines job.checked.spec
+        (given_by (B.store bank) job.list) Plain options.entry.run.steps) }
+    ensures ok { OnOk result.end (Writes W.contents out.old out.new
+        (job_traces (B.store bank) (shown_by options.entry) options.entry.run.steps job)) }
+    ensures err { IfErr result.end (λ fault. Stops fault
+        (job_traces (B.store bank) (shown_by options.entry) options.entry.run.steps job)
         (contents_of W.contents out.old) (contents_of W.contents out.new)) }
-    ensures same_output { IsSameOutput out.old out.new }
-    ensures cause { TellsWrite out.new result }
+    ensures room { IfErr result.end (FullIfRoom (B.store result.bank)) }
+    ensures reports { ReportsOutput out.old out.new result.end }
 {
+    let Job { checked, list } = job;
     match prepare(alloc, &checked, &bank, list, options) {
-        Ok(prepared) => write_prepared(alloc, checked, bank, &prepared, out),
-        Err(AllocError) => Err(RunFault::Memory { lines: 0 }),
+        Ok(prepared) => write_prepared(checked, bank, &prepared, out),
+        Err(AllocError) => Left {
+            end: Err(RunFault::Memory { lines: 0 }),
+            bank,
+        },
     }
 }
 
-/// What traces are made with besides an engine.
+/// The data from which traces are made, without the engine.
 #[derive(Drop)]
 struct Prepared<'a> {
     telling: Telling<'a>,
     terms: GivenTerms,
 }
 
-/// The places of the rules are found, and the given terms are taken out of their bank.
+/// Finds the locations of the rules, and takes the input terms out of their store.
 fn prepare<'a, B: TermBank>(
     alloc: Global,
     checked: &Checked,
@@ -134,68 +167,80 @@ fn prepare<'a, B: TermBank>(
 {
     let spots = rule_spots(alloc, checked.syntax())?;
     let terms = given_terms(alloc, checked, bank, list)?;
-    let telling = Telling { spots, options };
+    let telling = Telling {
+        alloc,
+        spots,
+        options,
+    };
     Ok(Prepared { telling, terms })
 }
 
-/// Writes the traces over a bank, of which nothing is needed any more.
+/// Writes the traces over a store whose terms are no longer needed.
 fn write_prepared<B: TermBank + Drop, W: Write>(
-    alloc: Global,
     checked: Checked,
     bank: B,
     prepared: &Prepared<'_>,
     out: &mut Output<'_, W>,
-) -> Result<(), RunFault>
+) -> Left<u64, B>
     requires unrooted { (t : ℕ) → (B.store bank).roots t ≡ 0 }
     requires telling { IsTelling checked.source checked.spec prepared.now.telling }
     requires given { (us : List Tree) × AreGivenTerms checked.spec us prepared.now.terms }
-    requires open { IsWritable out.old }
-    ensures ok { OnOk result ((us : List Tree)
+    ensures limits { IfOk result.end (λ limits. (us : List Tree)
+        → AreGivenTerms checked.spec us prepared.now.terms
+        → limits ≡ limit_lines checked.spec us Plain prepared.now.telling.options.run.steps) }
+    ensures ok { OnOk result.end ((us : List Tree)
         → AreGivenTerms checked.spec us prepared.now.terms
         → Writes W.contents out.old out.new
         (traces checked.source checked.spec us (shown_by prepared.now.telling.options)
         prepared.now.telling.options.run.steps)) }
-    ensures err { IfErr result (λ fault. (us : List Tree)
+    ensures err { IfErr result.end (λ fault. (us : List Tree)
         → AreGivenTerms checked.spec us prepared.now.terms
         → Stops fault
         (traces checked.source checked.spec us (shown_by prepared.now.telling.options)
         prepared.now.telling.options.run.steps)
         (contents_of W.contents out.old) (contents_of W.contents out.new)) }
-    ensures same_output { IsSameOutput out.old out.new }
-    ensures cause { TellsWrite out.new result }
+    ensures room { IfErr result.end (FullIfRoom (B.store result.bank)) }
+    ensures reports { ReportsOutput out.old out.new result.end }
 {
-    match engine_over(alloc, checked, bank, None, prepared.telling.options.run) {
-        Ok(engine) => write_over(alloc, engine, prepared, out),
-        Err(_) => Err(RunFault::Memory { lines: 0 }),
+    let telling = &prepared.telling;
+    match engine_over(telling.alloc, checked, bank, None, telling.options.run) {
+        Ok(engine) => write_over(engine, prepared, out),
+        Err(bank) => {
+            let end = Err(RunFault::Memory { lines: 0 });
+            Left { end, bank }
+        }
     }
 }
 
-/// Writes the traces over an engine, which is needed no more then.
+/// Writes the traces over an engine with the options of the run, and returns its store.
 fn write_over<B: TermBank + Drop, W: Write>(
-    alloc: Global,
     mut engine: Engine<B>,
     prepared: &Prepared<'_>,
     out: &mut Output<'_, W>,
-) -> Result<(), RunFault>
+) -> Left<u64, B>
     requires telling { (source : List ℕ) × IsTelling source engine.spec prepared.now.telling }
     requires given { (us : List Tree) × AreGivenTerms engine.spec us prepared.now.terms }
-    requires open { IsWritable out.old }
-    ensures ok { OnOk result ((source : List ℕ) (us : List Tree)
+    requires options { engine.options ≡ engine_options prepared.now.telling.options.run }
+    requires memo { RemembersNothing prepared.now.telling.options.run.memo engine.memo }
+    ensures limits { IfOk result.end (λ limits. (us : List Tree)
+        → AreGivenTerms engine.spec us prepared.now.terms
+        → limits ≡ limit_lines engine.spec us Plain prepared.now.telling.options.run.steps) }
+    ensures ok { OnOk result.end ((source : List ℕ) (us : List Tree)
         → IsTelling source engine.spec prepared.now.telling
         → AreGivenTerms engine.spec us prepared.now.terms
         → Writes W.contents out.old out.new
         (traces source engine.spec us (shown_by prepared.now.telling.options)
         prepared.now.telling.options.run.steps)) }
-    ensures err { IfErr result (λ fault. (source : List ℕ) (us : List Tree)
+    ensures err { IfErr result.end (λ fault. (source : List ℕ) (us : List Tree)
         → IsTelling source engine.spec prepared.now.telling
         → AreGivenTerms engine.spec us prepared.now.terms
         → Stops fault (traces source engine.spec us (shown_by prepared.now.telling.options)
         prepared.now.telling.options.run.steps)
         (contents_of W.contents out.old) (contents_of W.contents out.new)) }
-    ensures same_output { IsSameOutput out.old out.new }
-    ensures cause { TellsWrite out.new result }
+    ensures room { IfErr result.end (FullIfRoom (B.store result.bank)) }
+    ensures reports { ReportsOutput out.old out.new result.end }
 {
-    let written = write_traces(alloc, &mut engine, &prepared.terms, &prepared.telling, out);
-    let _parts = engine.into_parts();
-    written
+    let end = write_traces(&mut engine, &prepared.terms, &prepared.telling, out);
+    let (bank, _needed) = engine.into_parts();
+    Left { end, bank }
 }

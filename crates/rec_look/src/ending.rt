@@ -1,17 +1,17 @@
-//! The trace of a term: its first line where whole terms are shown, those of the rules that fire,
-//! and that of what the term comes to.
+//! The trace of a term: its first line if whole terms are shown, the lines of its rewrites, and the
+//! line of its value or of the step limit.
 
 ghost use Rattle.std.specs.Prelude.{◌≡◌, ◌++◌, ℕ, IfErr, IfOk, List, OnOk, codes, false};
-ghost use Rattle.rx_text.specs.Output.{IsSameOutput, IsWritable};
 ghost use Rattle.rec_syntax.specs.Syntax.{Term};
-ghost use Rattle.rx_run.specs.Streams.{TellsWrite};
 ghost use Rattle.rec_engine.specs.Engine.{SameEngine};
 ghost use Rattle.rec_run.specs.EvaluatedLines.{HoldsValue};
-ghost use Rattle.rec_run.specs.Output.{Task, notes_text};
+ghost use Rattle.rec_run.specs.Output.{Task, is_limited, notes_text};
+ghost use Rattle.rec_run.specs.declared.options.ValueForm.TheVariants.{Plain};
+ghost use Rattle.rec_trace.specs.Faults.{RoomOnlyIfFull};
 ghost use Rattle.rec_trace.specs.Lines.{whole_text};
 ghost use Rattle.rec_trace.specs.Lists.{IsKept};
 ghost use Rattle.rec_trace.specs.Tracing.{Stands, rest_of, whole_of};
-ghost use Rattle.rec_look.specs.Inner.Pages.{Breaks, Prints};
+ghost use Rattle.rec_look.specs.Inner.Pages.{Breaks, Prints, ReportsPage, ReportsTrace};
 ghost use Rattle.rec_look.specs.Traces.{shown_by, task_text};
 ghost use Rattle.rec_look.specs.Inner.Telling.{
   Begins,
@@ -19,35 +19,35 @@ ghost use Rattle.rec_look.specs.Inner.Telling.{
   IsWithin,
   end_text,
   first_text,
+  is_passed,
   told,
 };
 
 use crate::firings::write_firings;
-use crate::options::TraceOptions;
-use crate::page::{fault_after, print};
+use crate::page::print;
 use crate::telling::Telling;
 use rec_engine::{Engine, EngineFault, Outcome};
-use rec_run::{LineFault, RunOptions};
-use rec_trace::{Look, Spot, Tracer, whole_line};
+use rec_run::{RunOptions, engine_fault, is_limit};
+use rec_trace::{Look, Margins, Spot, Tracer, whole_line};
 use rx_run::{RunFault, put_numbered};
 use rx_term::TermBank;
 use rx_text::{Output, write};
-use std::alloc::Global;
 use std::io::Write;
 
-/// The text of what a term comes to, with a text of its annotations, comes behind a line.
+/// Appends the outcome of a term to a line: its value with the text of its annotations, or
+/// `!limit`.
 fn add_end<B: TermBank>(
-    alloc: Global,
     bank: &B,
     outcome: Outcome,
     notes: &[u8],
     options: RunOptions,
     line: &mut Vec<u8>,
-) -> Result<(), LineFault>
+) -> Result<(), RunFault>
     requires { HoldsValue (B.store bank.now) outcome }
     ensures { OnOk result (line.new.items ≡ line.old.items ++ end_text (B.store bank.now)
         options.count options.steps notes.now outcome) }
 {
+    let alloc = *line.allocator();
     match outcome {
         Outcome::Value { term, steps } => {
             write(alloc, bank, term, line)?;
@@ -62,68 +62,66 @@ fn add_end<B: TermBank>(
     }
 }
 
-/// The line of what a term comes to.
+/// Makes the line of the outcome of a term, with the text of its annotations.
 fn end_line<B: TermBank>(
-    alloc: Global,
     bank: &B,
     outcome: Outcome,
     notes: &[u8],
-    options: RunOptions,
-) -> Result<Vec<u8>, LineFault>
+    telling: &Telling<'_>,
+) -> Result<Vec<u8>, RunFault>
     requires { HoldsValue (B.store bank.now) outcome }
-    ensures { IfOk result (λ line. line.items ≡ end_text (B.store bank.now) options.count
-        options.steps notes.now outcome ++ codes "\n") }
+    ensures { IfOk result (λ line. line.items ≡ end_text (B.store bank.now)
+        telling.now.options.run.count telling.now.options.run.steps notes.now outcome
+        ++ codes "\n") }
 {
-    let mut line = Vec::new(alloc);
-    add_end(alloc, bank, outcome, notes, options, &mut line)?;
+    let mut line = Vec::new(telling.alloc);
+    add_end(bank, outcome, notes, telling.options.run, &mut line)?;
     line.extend_from_slice(b"\n")?;
     Ok(line)
 }
 
-/// Writes the line of what a term comes to.
+/// Writes the line of the outcome of a term, with the text of its annotations.
 fn write_end<B: TermBank, W: Write>(
-    alloc: Global,
     bank: &B,
     outcome: Outcome,
     notes: &[u8],
-    options: RunOptions,
+    telling: &Telling<'_>,
     out: &mut Output<'_, W>,
     lines: &mut u64,
 ) -> Result<(), RunFault>
     requires held { HoldsValue (B.store bank.now) outcome }
-    requires open { IsWritable out.old }
     ensures ok { OnOk result (Prints W.contents out.old out.new lines.old lines.new
-        (end_text (B.store bank.now) options.count options.steps notes.now outcome
-        ++ codes "\n")) }
+        (end_text (B.store bank.now) telling.now.options.run.count telling.now.options.run.steps
+        notes.now outcome ++ codes "\n")) }
     ensures err { IfErr result (Breaks W.contents out.old out.new lines.old
-        (end_text (B.store bank.now) options.count options.steps notes.now outcome
-        ++ codes "\n")) }
-    ensures same { IsSameOutput out.old out.new }
-    ensures cause { TellsWrite out.new result }
+        (end_text (B.store bank.now) telling.now.options.run.count telling.now.options.run.steps
+        notes.now outcome ++ codes "\n")) }
+    ensures reports { ReportsPage out.old out.new result }
 {
-    match end_line(alloc, bank, outcome, notes, options) {
+    match end_line(bank, outcome, notes, telling) {
         Ok(line) => print(&line, out, lines),
         Err(_) => Err(RunFault::Memory { lines: *lines }),
     }
 }
 
-/// Writes the lines of the rules that fire, and that of what the term comes to.
+/// Writes the lines of a term's rewrites and of its outcome, and returns whether the step limit was
+/// too low.
 fn write_rest<B: TermBank, W: Write>(
-    alloc: Global,
     engine: &mut Engine<B>,
     tracer: &mut Tracer,
     telling: &Telling<'_>,
     notes: &[u8],
     out: &mut Output<'_, W>,
     lines: &mut u64,
-) -> Result<(), RunFault>
+) -> Result<bool, RunFault>
     requires stands { Stands engine.old.spec (B.store engine.old.bank) tracer.old }
     requires within { IsWithin telling.now.options.run.steps
         (rest_of engine.old.spec (B.store engine.old.bank) tracer.old) }
     requires telling { (source : List ℕ) × IsTelling source engine.old.spec telling.now }
-    requires open { IsWritable out.old }
     ensures same { SameEngine engine.old engine.new }
     ensures list { OnOk result (IsKept (B.store engine.new.bank) tracer.new.saved.list) }
+    ensures limit { IfOk result (λ limited. limited
+        ≡ is_passed (rest_of engine.old.spec (B.store engine.old.bank) tracer.old).outcome) }
     ensures ok { OnOk result ((source : List ℕ) → IsTelling source engine.old.spec telling.now
         → Prints W.contents out.old out.new lines.old lines.new
         (told source (shown_by telling.now.options) telling.now.options.run.steps notes.now
@@ -133,99 +131,94 @@ fn write_rest<B: TermBank, W: Write>(
         → Breaks W.contents out.old out.new lines.old
         (told source (shown_by telling.now.options) telling.now.options.run.steps notes.now
         (rest_of engine.old.spec (B.store engine.old.bank) tracer.old)) fault) }
-    ensures same_output { IsSameOutput out.old out.new }
-    ensures cause { TellsWrite out.new result }
+    ensures reports { ReportsTrace B.store engine.new out.old out.new result }
 {
-    let outcome = write_firings(alloc, engine, tracer, telling, out, lines)?;
-    write_end(
-        alloc,
-        engine.bank(),
-        outcome,
-        notes,
-        telling.options.run,
-        out,
-        lines,
-    )
+    let outcome = write_firings(engine, tracer, telling, out, lines)?;
+    write_end(engine.bank(), outcome, notes, telling, out, lines)?;
+    Ok(is_limit(outcome))
 }
 
-/// The line of a whole term before any rule fires.
+/// Makes the line of a whole term before its first rewrite.
 fn first_line<B: TermBank>(
-    alloc: Global,
     engine: &mut Engine<B>,
     tracer: &mut Tracer,
-    options: TraceOptions<'_>,
+    telling: &Telling<'_>,
 ) -> Result<Vec<u8>, EngineFault>
     requires { Stands engine.old.spec (B.store engine.old.bank) tracer.old }
     ensures same { SameEngine engine.old engine.new }
+    ensures room { RoomOnlyIfFull (B.store engine.new.bank) engine.new.memo result }
     ensures stands { IfOk result
         (λ line. Stands engine.old.spec (B.store engine.new.bank) tracer.new) }
     ensures rest { IfOk result (λ line. rest_of engine.old.spec (B.store engine.new.bank) tracer.new
         ≡ rest_of engine.old.spec (B.store engine.old.bank) tracer.old) }
     ensures text { IfOk result (λ line. line.items ≡ whole_text 0 0 false
-        (shown_by options.entry).width 0
+        (shown_by telling.now.options).width 0
         (whole_of engine.old.spec (B.store engine.old.bank) tracer.old)) }
 {
-    let whole = tracer.whole(alloc, engine)?;
-    let spot = Spot { line: 0, column: 0 };
+    let whole = tracer.whole(telling.alloc, engine)?;
     let look = Look {
         counted: false,
-        width: options.look().width,
+        width: telling.options.look().width,
     };
-    match whole_line(alloc, engine.bank(), spot, whole, 0, look) {
+    let margins = Margins {
+        spot: Spot { line: 0, column: 0 },
+        spent: 0,
+        look,
+    };
+    match whole_line(telling.alloc, engine.bank(), whole, margins) {
         Ok(line) => Ok(line),
         Err(_) => Err(EngineFault::Memory),
     }
 }
 
-/// Writes the term before any rule fires, where whole terms are shown.
+/// Writes the line of a term before its first rewrite if whole terms are shown.
 fn write_first<B: TermBank, W: Write>(
-    alloc: Global,
     engine: &mut Engine<B>,
     tracer: &mut Tracer,
-    options: TraceOptions<'_>,
+    telling: &Telling<'_>,
     out: &mut Output<'_, W>,
     lines: &mut u64,
 ) -> Result<(), RunFault>
     requires stands { Stands engine.old.spec (B.store engine.old.bank) tracer.old }
-    requires open { IsWritable out.old }
     ensures same { SameEngine engine.old engine.new }
     ensures stands { OnOk result
         (Stands engine.old.spec (B.store engine.new.bank) tracer.new) }
     ensures rest { OnOk result (rest_of engine.old.spec (B.store engine.new.bank) tracer.new
         ≡ rest_of engine.old.spec (B.store engine.old.bank) tracer.old) }
     ensures ok { OnOk result (Prints W.contents out.old out.new lines.old lines.new
-        (first_text (shown_by options.entry)
+        (first_text (shown_by telling.now.options)
         (whole_of engine.old.spec (B.store engine.old.bank) tracer.old))) }
     ensures err { IfErr result (Breaks W.contents out.old out.new lines.old
-        (first_text (shown_by options.entry)
+        (first_text (shown_by telling.now.options)
         (whole_of engine.old.spec (B.store engine.old.bank) tracer.old))) }
-    ensures same_output { IsSameOutput out.old out.new }
-    ensures cause { TellsWrite out.new result }
+    ensures reports { ReportsTrace B.store engine.new out.old out.new result }
 {
-    if !options.whole {
+    if !telling.options.whole {
         return Ok(());
     }
-    match first_line(alloc, engine, tracer, options) {
+    match first_line(engine, tracer, telling) {
         Ok(line) => print(&line, out, lines),
-        Err(fault) => Err(fault_after(fault, *lines)),
+        Err(fault) => Err(engine_fault(fault, *lines)),
     }
 }
 
-/// Writes the trace of a term, where a tracer is at its beginning, with a text of its annotations.
+/// Writes the trace of a term from a tracer at its beginning and from the text of its annotations,
+/// and returns whether the step limit was too low.
 pub(crate) fn write_trace<B: TermBank, W: Write>(
-    alloc: Global,
     engine: &mut Engine<B>,
     tracer: Tracer,
     telling: &Telling<'_>,
     notes: &[u8],
     out: &mut Output<'_, W>,
     lines: &mut u64,
-) -> Result<(), RunFault>
+) -> Result<bool, RunFault>
     requires begins { (t : Term) × Begins engine.old.spec (B.store engine.old.bank)
         telling.now.options.run.steps tracer t }
     requires telling { (source : List ℕ) × IsTelling source engine.old.spec telling.now }
-    requires open { IsWritable out.old }
     ensures same { SameEngine engine.old engine.new }
+    ensures limit { IfOk result (λ limited. (task : Task)
+        → Begins engine.old.spec (B.store engine.old.bank) telling.now.options.run.steps tracer
+        task.term → limited ≡ is_limited engine.old.spec Plain telling.now.options.run.steps task) }
     ensures ok { OnOk result ((source : List ℕ) (task : Task)
         → IsTelling source engine.old.spec telling.now
         → Begins engine.old.spec (B.store engine.old.bank) telling.now.options.run.steps tracer
@@ -240,12 +233,11 @@ pub(crate) fn write_trace<B: TermBank, W: Write>(
         → Breaks W.contents out.old out.new lines.old
         (task_text source engine.old.spec (shown_by telling.now.options)
         telling.now.options.run.steps task) fault) }
-    ensures same_output { IsSameOutput out.old out.new }
-    ensures cause { TellsWrite out.new result }
+    ensures reports { ReportsTrace B.store engine.new out.old out.new result }
 {
     let mut tracer = tracer;
-    write_first(alloc, engine, &mut tracer, telling.options, out, lines)?;
-    write_rest(alloc, engine, &mut tracer, telling, notes, out, lines)?;
+    write_first(engine, &mut tracer, telling, out, lines)?;
+    let limited = write_rest(engine, &mut tracer, telling, notes, out, lines)?;
     tracer.end(engine);
-    Ok(())
+    Ok(limited)
 }

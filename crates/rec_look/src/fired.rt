@@ -1,4 +1,4 @@
-//! A rule that fired: whether it is picked, and its line.
+//! A rewrite: whether it is selected, and its line.
 
 ghost use Rattle.std.specs.Prelude.{◌≡◌, ◌≤◌, ◌<◌, ℕ, IfOk, IsSome, List, Some, length};
 ghost use Rattle.std.specs.Prelude.{option_map, slice_get};
@@ -6,6 +6,7 @@ ghost use Rattle.rx_term.specs.Store.{Store, tree_at};
 ghost use Rattle.rx_term.specs.Walks.{held_tree};
 ghost use Rattle.rec_syntax.specs.Syntax.{Spec};
 ghost use Rattle.rec_engine.specs.Engine.{SameEngine};
+ghost use Rattle.rec_trace.specs.Faults.{RoomOnlyIfFull};
 ghost use Rattle.rec_trace.specs.Trace.{Firing};
 ghost use Rattle.rec_trace.specs.Tracing.{HasFiredAt, Stands, rest_of};
 ghost use Rattle.rec_trace.specs.declared.tracer.Tracer.{Tracer};
@@ -16,18 +17,17 @@ ghost use Rattle.rec_look.specs.Inner.Telling.{IsTelling};
 use crate::picked::RulePlace;
 use crate::telling::Telling;
 use rec_engine::{Engine, EngineFault};
-use rec_trace::{Rewrite, Spot, Tracer, firing_line, whole_line};
+use rec_trace::{Margins, Spot, Tracer, firing_line, whole_line};
 use rx_term::{Kind, Term, TermBank};
-use std::alloc::Global;
 
-/// A rule that fired: its number, and the redex.
+/// A rewrite: the number of its rule, and the redex.
 #[derive(Clone, Copy, Drop)]
 pub(crate) struct Fired {
     pub(crate) rule: u32,
     pub(crate) redex: Term,
 }
 
-/// Whether a spot is at the place that is asked for.
+/// Returns whether a rule begins at the selected location; true if none is selected.
 fn is_asked_spot(spot: Spot, place: Option<RulePlace>) -> bool
     ensures { result ≡ where_asked (is_at spot) place }
 {
@@ -39,7 +39,7 @@ fn is_asked_spot(spot: Spot, place: Option<RulePlace>) -> bool
     }
 }
 
-/// Whether a term is a call of the symbol that is asked for.
+/// Returns whether a term is a call of the selected symbol; true if none is selected.
 fn is_asked_call<B: TermBank>(bank: &B, t: Term, symbol: Option<&[u8]>) -> bool
     requires { IsSome (tree_at (B.store bank.now) t) }
     ensures { result ≡ where_asked (is_call_of (held_tree (B.store bank.now) t))
@@ -54,7 +54,7 @@ fn is_asked_call<B: TermBank>(bank: &B, t: Term, symbol: Option<&[u8]>) -> bool
     bank.name_of(own) == symbol
 }
 
-/// Whether a rule that fired is picked.
+/// Returns whether a rewrite is selected.
 pub(crate) fn is_picked<B: TermBank>(bank: &B, telling: &Telling<'_>, fired: Fired) -> bool
     requires rule { fired.rule < length telling.now.spots.items }
     requires redex { IsSome (tree_at (B.store bank.now) fired.redex) }
@@ -68,10 +68,9 @@ pub(crate) fn is_picked<B: TermBank>(bank: &B, telling: &Telling<'_>, fired: Fir
         && is_asked_call(bank, fired.redex, picked.symbol)
 }
 
-/// The line of a rule that fired, by the tracer behind it. What the redex became is written down
-/// for a line that shows it.
+/// Makes the line of a rewrite from the tracer after it. The contractum is built only for a line
+/// that shows it.
 pub(crate) fn step_text<B: TermBank>(
-    alloc: Global,
     engine: &mut Engine<B>,
     tracer: &mut Tracer,
     telling: &Telling<'_>,
@@ -83,6 +82,7 @@ pub(crate) fn step_text<B: TermBank>(
     requires left { tracer.old.left ≤ telling.now.options.run.steps }
     requires telling { (source : List ℕ) × IsTelling source engine.old.spec telling.now }
     ensures same { SameEngine engine.old engine.new }
+    ensures room { RoomOnlyIfFull (B.store engine.new.bank) engine.new.memo result }
     ensures stands { IfOk result
         (λ line. Stands engine.old.spec (B.store engine.new.bank) tracer.new) }
     ensures rest { IfOk result (λ line. rest_of engine.old.spec (B.store engine.new.bank) tracer.new
@@ -97,15 +97,16 @@ pub(crate) fn step_text<B: TermBank>(
     let spot = telling.spots[fired.rule as usize];
     let spent = telling.options.run.steps - tracer.left();
     let look = telling.options.look();
+    let margins = Margins { spot, spent, look };
     if telling.options.whole {
-        let whole = tracer.whole(alloc, engine)?;
-        match whole_line(alloc, engine.bank(), spot, whole, spent, look) {
+        let whole = tracer.whole(telling.alloc, engine)?;
+        match whole_line(telling.alloc, engine.bank(), whole, margins) {
             Ok(line) => Ok(line),
             Err(_) => Err(EngineFault::Memory),
         }
     } else {
-        let Rewrite { redex, contractum } = tracer.rewrite(alloc, engine, fired.rule, fired.redex)?;
-        match firing_line(alloc, engine.bank(), spot, redex, contractum, spent, look) {
+        let rewrite = tracer.rewrite(telling.alloc, engine, fired.rule, fired.redex)?;
+        match firing_line(telling.alloc, engine.bank(), rewrite, margins) {
             Ok(line) => Ok(line),
             Err(_) => Err(EngineFault::Memory),
         }

@@ -1,13 +1,11 @@
-//! The lines of all that fires on the way to a term's value.
+//! The lines of all rewrites of a term's evaluation.
 
 ghost use Rattle.std.specs.Prelude.{◌≡◌, ◌≤◌, ◌++◌, ℕ, IfErr, IfOk, List, OnOk, codes, decimal};
-ghost use Rattle.rx_text.specs.Output.{IsSameOutput, IsWritable};
-ghost use Rattle.rx_run.specs.Streams.{TellsWrite};
 ghost use Rattle.rec_engine.specs.Engine.{SameEngine};
 ghost use Rattle.rec_trace.specs.Lines.{joined};
 ghost use Rattle.rec_trace.specs.Lists.{IsKept};
 ghost use Rattle.rec_trace.specs.Tracing.{Stands, rest_of};
-ghost use Rattle.rec_look.specs.Inner.Pages.{Breaks, Prints};
+ghost use Rattle.rec_look.specs.Inner.Pages.{Breaks, Prints, ReportsPage, ReportsTrace};
 ghost use Rattle.rec_look.specs.Picks.{Picks, by_threes, last_lines, more_line};
 ghost use Rattle.rec_look.specs.Traces.{shown_by};
 ghost use Rattle.rec_look.specs.Inner.Telling.{HasKept, IsEnd, IsTelling, IsWithin};
@@ -18,7 +16,6 @@ use crate::page::print;
 use crate::steps::write_steps;
 use crate::telling::Telling;
 use rec_engine::{Engine, Outcome};
-use rec_run::LineFault;
 use rec_trace::Tracer;
 use rx_run::{RunFault, put_numbered};
 use rx_term::TermBank;
@@ -27,7 +24,7 @@ use std::alloc::{AllocError, Global};
 use std::collections::VecDeque;
 use std::io::Write;
 
-/// Digits come behind a line, with a `,` before each three from the end.
+/// Appends digits to a line, with a `,` between groups of three, counted from the end.
 fn add_by_threes(digits: &[u8], line: &mut Vec<u8>) -> Result<(), AllocError>
     ensures { OnOk result (line.new.items ≡ line.old.items ++ by_threes digits.now) }
 {
@@ -41,8 +38,8 @@ fn add_by_threes(digits: &[u8], line: &mut Vec<u8>) -> Result<(), AllocError>
     Ok(())
 }
 
-/// The line on so many that are left out.
-fn more_text(alloc: Global, left_out: u64) -> Result<Vec<u8>, LineFault>
+/// Makes the line that reports how many lines are left out, such as `... 1,234 more`.
+fn more_text(alloc: Global, left_out: u64) -> Result<Vec<u8>, RunFault>
     ensures { IfOk result (λ line. line.items
         ≡ codes "... " ++ by_threes (decimal left_out) ++ codes " more\n") }
 {
@@ -55,20 +52,18 @@ fn more_text(alloc: Global, left_out: u64) -> Result<Vec<u8>, LineFault>
     Ok(line)
 }
 
-/// Writes how many lines are left out, where there are any.
+/// Writes the line that reports how many lines are left out, unless there are none.
 fn write_more<W: Write>(
     alloc: Global,
     left_out: u64,
     out: &mut Output<'_, W>,
     lines: &mut u64,
 ) -> Result<(), RunFault>
-    requires { IsWritable out.old }
     ensures ok { OnOk result (Prints W.contents out.old out.new lines.old lines.new
         (joined (more_line left_out))) }
     ensures err { IfErr result (Breaks W.contents out.old out.new lines.old
         (joined (more_line left_out))) }
-    ensures same_output { IsSameOutput out.old out.new }
-    ensures cause { TellsWrite out.new result }
+    ensures reports { ReportsPage out.old out.new result }
 {
     if left_out == 0 {
         return Ok(());
@@ -79,19 +74,17 @@ fn write_more<W: Write>(
     }
 }
 
-/// Writes lines that were kept.
+/// Writes the lines that were kept.
 fn write_last<W: Write>(
     last: &VecDeque<Vec<u8>>,
     out: &mut Output<'_, W>,
     lines: &mut u64,
 ) -> Result<(), RunFault>
-    requires { IsWritable out.old }
     ensures ok { OnOk result (Prints W.contents out.old out.new lines.old lines.new
         (joined (texts_of last.now.items))) }
     ensures err { IfErr result (Breaks W.contents out.old out.new lines.old
         (joined (texts_of last.now.items))) }
-    ensures same_output { IsSameOutput out.old out.new }
-    ensures cause { TellsWrite out.new result }
+    ensures reports { ReportsPage out.old out.new result }
 {
     for i in 0..last.len() {
         print(&last[i], out, lines)?;
@@ -99,28 +92,25 @@ fn write_last<W: Write>(
     Ok(())
 }
 
-/// Writes what stands behind the lines in front, by what was kept of all.
+/// Writes all that follows the lines at the beginning: how many are left out, and the kept lines.
 fn write_kept<W: Write>(
     alloc: Global,
     kept: &Kept,
     out: &mut Output<'_, W>,
     lines: &mut u64,
 ) -> Result<(), RunFault>
-    requires { IsWritable out.old }
     ensures ok { OnOk result ((p : Picks) (ls : List (List ℕ)) → HasKept p ls kept.now
         → Prints W.contents out.old out.new lines.old lines.new (joined (last_lines p ls))) }
     ensures err { IfErr result (λ fault. (p : Picks) (ls : List (List ℕ)) → HasKept p ls kept.now
         → Breaks W.contents out.old out.new lines.old (joined (last_lines p ls)) fault) }
-    ensures same_output { IsSameOutput out.old out.new }
-    ensures cause { TellsWrite out.new result }
+    ensures reports { ReportsPage out.old out.new result }
 {
     write_more(alloc, kept.left_out, out, lines)?;
     write_last(&kept.last, out, lines)
 }
 
-/// Writes the lines of the rules that fire: what the term comes to.
+/// Writes the lines of all rewrites of a term, and returns the outcome of its evaluation.
 pub(crate) fn write_firings<B: TermBank, W: Write>(
-    alloc: Global,
     engine: &mut Engine<B>,
     tracer: &mut Tracer,
     telling: &Telling<'_>,
@@ -131,7 +121,6 @@ pub(crate) fn write_firings<B: TermBank, W: Write>(
     requires within { IsWithin telling.now.options.run.steps
         (rest_of engine.old.spec (B.store engine.old.bank) tracer.old) }
     requires telling { (source : List ℕ) × IsTelling source engine.old.spec telling.now }
-    requires open { IsWritable out.old }
     ensures same { SameEngine engine.old engine.new }
     ensures list { IfOk result
         (λ outcome. IsKept (B.store engine.new.bank) tracer.new.saved.list) }
@@ -146,11 +135,10 @@ pub(crate) fn write_firings<B: TermBank, W: Write>(
         → Breaks W.contents out.old out.new lines.old
         (told source (shown_by telling.now.options) telling.now.options.run.steps notes
         (rest_of engine.old.spec (B.store engine.old.bank) tracer.old)) fault) }
-    ensures same_output { IsSameOutput out.old out.new }
-    ensures cause { TellsWrite out.new result }
+    ensures reports { ReportsTrace B.store engine.new out.old out.new result }
 {
-    let mut kept = Kept::new(alloc, telling.options.picked);
-    let outcome = write_steps(alloc, engine, tracer, telling, &mut kept, out, lines)?;
-    write_kept(alloc, &kept, out, lines)?;
+    let mut kept = Kept::new(telling.alloc, telling.options.picked);
+    let outcome = write_steps(engine, tracer, telling, &mut kept, out, lines)?;
+    write_kept(telling.alloc, &kept, out, lines)?;
     Ok(outcome)
 }

@@ -1,4 +1,4 @@
-//! Given terms as they are traced: nothing of them is kept in a bank.
+//! Input terms in the form in which they are traced: without a term store.
 
 ghost use Rattle.std.specs.Prelude.{◌≡◌, IfOk, IsSome, Some, length};
 ghost use Rattle.std.specs.Option.{ForSome};
@@ -14,16 +14,16 @@ use rec_sorts::{Checked, Letter, term_letters};
 use rx_term::{Term, TermBank};
 use std::alloc::{AllocError, Global};
 
-/// Given terms, in their order.
+/// Input terms, in their order.
 #[derive(Drop)]
 pub(crate) struct GivenTerms {
-    /// The numbered words of each.
+    /// The postfix items of each term.
     pub(crate) letters: Vec<Vec<Letter>>,
-    /// The text of the annotations of each, between braces, where there are any.
+    /// The text of the annotations of each term, in braces; empty without annotations.
     pub(crate) notes: Vec<Vec<u8>>,
 }
 
-/// The text of a term's annotations.
+/// Returns the text of a term's annotations.
 fn notes_of<B: TermBank>(alloc: Global, bank: &B, t: Term) -> Result<Vec<u8>, AllocError>
     requires { IsSome (tree_at (B.store bank.now) t) }
     ensures { IfOk result
@@ -36,7 +36,7 @@ fn notes_of<B: TermBank>(alloc: Global, bank: &B, t: Term) -> Result<Vec<u8>, Al
     }
 }
 
-/// The texts of the annotations of so many terms of a list.
+/// Returns the texts of the annotations of all terms of a list, whose number is `count`.
 fn notes_of_all<B: TermBank>(
     alloc: Global,
     bank: &B,
@@ -59,7 +59,7 @@ fn notes_of_all<B: TermBank>(
     Ok(notes)
 }
 
-/// The terms of a list that keep the rules.
+/// Returns the terms of a list, which violate no rule.
 fn listed_terms<B: TermBank>(
     alloc: Global,
     checked: &Checked,
@@ -75,7 +75,7 @@ fn listed_terms<B: TermBank>(
     Ok(GivenTerms { letters, notes })
 }
 
-/// The terms of a list, where there is one, that keep the rules.
+/// Returns the terms of a list, which violate no rule, or no terms without a list.
 pub(crate) fn given_terms<B: TermBank>(
     alloc: Global,
     checked: &Checked,

@@ -1,6 +1,6 @@
-//! What is kept of a term's lines until nothing more fires.
+//! The lines of a term's last selected rewrites, which are kept until its evaluation ends.
 
-ghost use Rattle.std.specs.Prelude.{◌≡◌, ◌≤◌, ◌+◌, ◌-◌, ◌++◌, ◌∷◌, ℕ, [], List, OnOk, drop, length};
+ghost use Rattle.std.specs.Prelude.{◌≡◌, ◌≤◌, ◌+◌, ◌-◌, ◌++◌, ◌∷◌, ℕ, [], IfErr, List, OnOk, drop, length};
 ghost use Rattle.rec_look.specs.Picks.{Picks, back_count, picks_by};
 ghost use Rattle.rec_look.specs.Inner.Telling.{HasKept, front_left, place_of};
 
@@ -9,31 +9,31 @@ use rec_engine::EngineFault;
 use std::alloc::Global;
 use std::collections::VecDeque;
 
-/// How many lines in front are left, and the last ones of those behind them.
+/// Counts the lines that are still to be written at once, and keeps the last ones of the others.
 #[derive(Drop)]
 pub(crate) struct Kept {
-    /// How many lines in front are still to be written; all, where there is no number.
+    /// The number of lines that are still to be written at once; all with `None`.
     pub(crate) front: Option<u64>,
-    /// How many lines are kept at most.
+    /// The largest number of lines that are kept.
     pub(crate) most: usize,
-    /// Those that are kept, the oldest first.
+    /// The lines that are kept, the oldest first.
     pub(crate) last: VecDeque<Vec<u8>>,
-    /// How many there were between those in front and these.
+    /// The number of lines between those written at once and those that are kept.
     pub(crate) left_out: u64,
 }
 
-/// What becomes of a line.
+/// The destination of a line.
 #[derive(Clone, Copy, Drop)]
 pub(crate) enum Place {
-    /// It is written.
+    /// The line is written at once.
     Front,
-    /// It is kept.
+    /// The line is kept.
     Behind,
-    /// It is only counted.
+    /// The line is only counted.
     Nowhere,
 }
 
-/// How many lines in front are to be written.
+/// Returns the number of lines that are to be written at once; `None` for all.
 fn front_of(picked: Picked<'_>) -> Option<u64>
     ensures { result ≡ front_left (picks_by picked.entry) 0 }
 {
@@ -46,7 +46,7 @@ fn front_of(picked: Picked<'_>) -> Option<u64>
     }
 }
 
-/// How many lines at the end are to be written.
+/// Returns the largest number of lines at the end.
 fn back_of(picked: Picked<'_>) -> usize
     ensures { result ≡ back_count (picks_by picked.entry) }
 {
@@ -57,7 +57,7 @@ fn back_of(picked: Picked<'_>) -> usize
 }
 
 impl Kept {
-    /// Nothing fired yet.
+    /// Makes the state before the first rewrite.
     pub(crate) fn new(alloc: Global, picked: Picked<'_>) -> Kept
         ensures { HasKept (picks_by picked.entry) [] result }
     {
@@ -69,7 +69,7 @@ impl Kept {
         }
     }
 
-    /// What becomes of the next line.
+    /// Returns the destination of the next line.
     pub(crate) fn place(&self) -> Place
         ensures { result ≡ place_of self.now }
     {
@@ -86,7 +86,7 @@ impl Kept {
         }
     }
 
-    /// A line stands in front.
+    /// Counts a line that is written at once.
     pub(crate) fn pass(&mut self)
         requires { place_of self.old ≡ Place.Front }
         ensures { (p : Picks) (ls : List (List ℕ)) (l : List ℕ) → HasKept p ls self.old
@@ -97,8 +97,9 @@ impl Kept {
         }
     }
 
-    /// One line more is left out. More of them than a number can count are want of memory.
+    /// Counts one more line that is left out. If the count overflows, the error is `Memory`.
     pub(crate) fn count(&mut self) -> Result<(), EngineFault>
+        ensures memory { IfErr result (λ fault. fault ≡ EngineFault.Memory) }
         ensures counted { OnOk result (self.new.left_out ≡ self.old.left_out + 1) }
         ensures front { self.new.front ≡ self.old.front }
         ensures most { self.new.most ≡ self.old.most }
@@ -113,8 +114,9 @@ impl Kept {
         }
     }
 
-    /// Where one line is kept too many, the oldest one is left out.
+    /// Drops the oldest line, and counts it as left out, if one line too many is kept.
     fn shorten(&mut self) -> Result<(), EngineFault>
+        ensures memory { IfErr result (λ fault. fault ≡ EngineFault.Memory) }
         ensures last { OnOk result (length self.old.last.items ≤ self.old.most + 1
             → self.new.last.items
             ≡ drop (length self.old.last.items - self.old.most) self.old.last.items) }
@@ -131,8 +133,9 @@ impl Kept {
         self.count()
     }
 
-    /// One line more is kept.
+    /// Adds a line to those that are kept.
     fn push(&mut self, line: Vec<u8>) -> Result<(), EngineFault>
+        ensures memory { IfErr result (λ fault. fault ≡ EngineFault.Memory) }
         ensures last { OnOk result (self.new.last.items ≡ self.old.last.items ++ line ∷ []) }
         ensures front { self.new.front ≡ self.old.front }
         ensures most { self.new.most ≡ self.old.most }
@@ -144,11 +147,12 @@ impl Kept {
         }
     }
 
-    /// Keeps a line; where these are too many, the oldest one is left out.
+    /// Keeps a line. If there are then too many, the oldest one is left out.
     pub(crate) fn keep(&mut self, line: Vec<u8>) -> Result<(), EngineFault>
         requires { place_of self.old ≡ Place.Behind }
-        ensures { OnOk result ((p : Picks) (ls : List (List ℕ)) → HasKept p ls self.old
+        ensures kept { OnOk result ((p : Picks) (ls : List (List ℕ)) → HasKept p ls self.old
             → HasKept p (ls ++ line.items ∷ []) self.new) }
+        ensures memory { IfErr result (λ fault. fault ≡ EngineFault.Memory) }
     {
         self.push(line)?;
         self.shorten()

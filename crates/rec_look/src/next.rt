@@ -1,8 +1,9 @@
-//! What a firing adds to the lines of its term.
+//! The line that a rewrite adds to the trace of its term.
 
 ghost use Rattle.std.specs.Prelude.{◌≡◌, ◌≤◌, ◌∷◌, ℕ, [], IfOk, List};
 ghost use Rattle.rx_term.specs.Store.{Store};
 ghost use Rattle.rec_engine.specs.Engine.{SameEngine};
+ghost use Rattle.rec_trace.specs.Faults.{RoomOnlyIfFull};
 ghost use Rattle.rec_trace.specs.Tracing.{HasFiredAt, Stands, rest_of};
 ghost use Rattle.rec_trace.specs.declared.tracer.Tracer.{Tracer};
 ghost use Rattle.rec_look.specs.Picks.{picks_by};
@@ -15,11 +16,10 @@ use crate::telling::Telling;
 use rec_engine::{Engine, EngineFault};
 use rec_trace::Tracer;
 use rx_term::TermBank;
-use std::alloc::Global;
 
-/// What a firing that is picked adds in front: its line is made where it is written there, or kept.
+/// Makes the line of a selected rewrite if it is written at once or kept, and returns it in the
+/// first case only.
 fn picked_line<B: TermBank>(
-    alloc: Global,
     engine: &mut Engine<B>,
     tracer: &mut Tracer,
     telling: &Telling<'_>,
@@ -32,6 +32,7 @@ fn picked_line<B: TermBank>(
     requires left { tracer.old.left ≤ telling.now.options.run.steps }
     requires telling { (source : List ℕ) × IsTelling source engine.old.spec telling.now }
     ensures same { SameEngine engine.old engine.new }
+    ensures room { RoomOnlyIfFull (B.store engine.new.bank) engine.new.memo result }
     ensures stands { IfOk result
         (λ line. Stands engine.old.spec (B.store engine.new.bank) tracer.new) }
     ensures rest { IfOk result (λ line. rest_of engine.old.spec (B.store engine.new.bank) tracer.new
@@ -52,22 +53,21 @@ fn picked_line<B: TermBank>(
             Ok(None)
         }
         Place::Front => {
-            let line = step_text(alloc, engine, tracer, telling, fired)?;
+            let line = step_text(engine, tracer, telling, fired)?;
             kept.pass();
             Ok(Some(line))
         }
         Place::Behind => {
-            let line = step_text(alloc, engine, tracer, telling, fired)?;
+            let line = step_text(engine, tracer, telling, fired)?;
             kept.keep(line)?;
             Ok(None)
         }
     }
 }
 
-/// What a firing adds in front, by the tracer behind it. One that is not picked, or only counted,
-/// is not written down.
+/// Returns the line that a rewrite adds at once, if it adds one, from the tracer after the rewrite.
+/// No line is made of a rewrite that is not selected or only counted.
 pub(crate) fn next_line<B: TermBank>(
-    alloc: Global,
     engine: &mut Engine<B>,
     tracer: &mut Tracer,
     telling: &Telling<'_>,
@@ -80,6 +80,7 @@ pub(crate) fn next_line<B: TermBank>(
     requires left { tracer.old.left ≤ telling.now.options.run.steps }
     requires telling { (source : List ℕ) × IsTelling source engine.old.spec telling.now }
     ensures same { SameEngine engine.old engine.new }
+    ensures room { RoomOnlyIfFull (B.store engine.new.bank) engine.new.memo result }
     ensures stands { IfOk result
         (λ line. Stands engine.old.spec (B.store engine.new.bank) tracer.new) }
     ensures rest { IfOk result (λ line. rest_of engine.old.spec (B.store engine.new.bank) tracer.new
@@ -92,7 +93,7 @@ pub(crate) fn next_line<B: TermBank>(
         → TakesUp source telling.now.options before f.firing kept.new line) }
 {
     if is_picked(engine.bank(), telling, fired) {
-        picked_line(alloc, engine, tracer, telling, fired, kept)
+        picked_line(engine, tracer, telling, fired, kept)
     } else {
         Ok(None)
     }

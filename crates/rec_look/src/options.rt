@@ -1,4 +1,4 @@
-//! How traces are shown.
+//! The settings of a run of traces.
 
 ghost use Rattle.std.specs.Prelude.{◌≡◌};
 ghost use Rattle.rec_look.specs.Traces.{shown_by};
@@ -7,22 +7,25 @@ use crate::picked::Picked;
 use rec_run::RunOptions;
 use rec_trace::Look;
 
-/// What a run of traces may use, and how it shows them.
+/// The settings of a run of traces: its limits, the form of its lines and the selection of
+/// rewrites.
 #[derive(Clone, Copy, Debug, Drop)]
 pub struct TraceOptions<'a> {
-    /// What it may use. `count` asks for the steps spent behind each line; the memo is not used.
+    /// The limits of the run. `count` adds the steps spent so far to the lines of rewrites and
+    /// values. The memo table is not used.
     pub run: RunOptions,
-    /// Whether each firing is shown by the whole term behind it, and the term itself before the
-    /// first one, in place of the redex and what that becomes.
+    /// Whether the line of a rewrite shows the whole term after it, not the redex and its
+    /// replacement. Before the first rewrite there is then a line of the term itself.
     pub whole: bool,
-    /// The most bytes of a term that a firing shows; a longer text ends in `...`.
+    /// The largest number of bytes of a term that the line of a rewrite shows. A longer text is cut
+    /// and ends in `...`.
     pub width: Option<u32>,
-    /// Which firings are shown.
+    /// The selection of the rewrites that are shown.
     pub picked: Picked<'a>,
 }
 
 impl TraceOptions<'_> {
-    /// How the lines of firings look.
+    /// Returns the form of the lines of rewrites.
     pub(crate) fn look(self) -> Look
         ensures counted { result.counted ≡ (shown_by self.entry).counted }
         ensures width { result.width ≡ (shown_by self.entry).width }

@@ -1,9 +1,9 @@
-//! Which of the rules that fire are told.
+//! The selection of the rewrites that a trace shows.
 
 ghost use Rattle.std.specs.Prelude.{◌≡◌};
 ghost use Rattle.rec_look.specs.Picks.{all_picked, picks_by};
 
-/// The place at which a rule begins.
+/// The location at which a rule begins in the text of the specification.
 #[derive(Clone, Copy, Debug, Drop)]
 pub struct RulePlace {
     /// The line, from 1.
@@ -12,22 +12,25 @@ pub struct RulePlace {
     pub column: u32,
 }
 
-/// Which of the rules that fire have a line, of each term anew. Where some are picked and have
-/// none, a line tells how many.
+/// Selects the rewrites that have a line, for each term anew. If some selected rewrites have none,
+/// a line reports their number.
 #[derive(Clone, Copy, Debug, Drop)]
 pub struct Picked<'a> {
-    /// The place at which the rule is to begin.
+    /// The location at which the rule has to begin. With `None`, every rule is selected.
     pub place: Option<RulePlace>,
-    /// The symbol whose call is to be rewritten, as the specification spells it.
+    /// The symbol of the call that is rewritten, as the specification spells it. With `None`, calls
+    /// of every symbol are selected.
     pub symbol: Option<&'a [u8]>,
-    /// How many of those have a line in front; all, where there are no `last` ones either.
+    /// The number of selected rewrites that are shown at the beginning. With `None`, all are shown
+    /// if `last` is also `None`, otherwise none at the beginning.
     pub first: Option<u64>,
-    /// How many of the others have one at the end. So many lines are kept in memory at most.
+    /// The number of other selected rewrites that are shown at the end. Between two rewrites, at
+    /// most this number of lines is kept in memory.
     pub last: Option<u32>,
 }
 
 impl Picked<'_> {
-    /// Each of them.
+    /// Selects all rewrites.
     pub fn all() -> Picked<'static>
         ensures { picks_by result ≡ all_picked }
     {

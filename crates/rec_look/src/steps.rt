@@ -1,16 +1,14 @@
-//! The rules that fire, as they are told one after the other.
+//! The rewrites of a term, which are shown one after the other.
 
 ghost use Rattle.std.specs.Prelude.{◌≡◌, ◌≤◌, ◌∷◌, ℕ, [], IfErr, IfOk, List, OnOk};
 ghost use Rattle.std.specs.Option.{option_to_list};
 ghost use Rattle.rx_term.specs.Store.{Store};
-ghost use Rattle.rx_text.specs.Output.{IsSameOutput, IsWritable};
-ghost use Rattle.rx_run.specs.Streams.{TellsWrite};
 ghost use Rattle.rec_engine.specs.Engine.{SameEngine};
 ghost use Rattle.rec_trace.specs.Lines.{joined};
 ghost use Rattle.rec_trace.specs.Lists.{IsKept};
 ghost use Rattle.rec_trace.specs.Tracing.{HasFiredAt, Stands, rest_of};
 ghost use Rattle.rec_trace.specs.declared.tracer.Tracer.{Tracer};
-ghost use Rattle.rec_look.specs.Inner.Pages.{Breaks, Prints};
+ghost use Rattle.rec_look.specs.Inner.Pages.{Breaks, Prints, ReportsPage, ReportsTrace};
 ghost use Rattle.rec_look.specs.Picks.{front_lines, picks_by};
 ghost use Rattle.rec_look.specs.Traces.{picked_lines, shown_by};
 ghost use Rattle.rec_look.specs.Inner.Telling.{
@@ -29,29 +27,27 @@ ghost use Rattle.rec_look.specs.Inner.Telling.{
 use crate::fired::Fired;
 use crate::kept::Kept;
 use crate::next::next_line;
-use crate::page::{fault_after, print};
+use crate::page::print;
 use crate::telling::Telling;
 use rec_engine::{Engine, Outcome};
+use rec_run::engine_fault;
 use rec_trace::{Event, Tracer};
 use rx_run::RunFault;
 use rx_term::TermBank;
 use rx_text::Output;
-use std::alloc::Global;
 use std::io::Write;
 
-/// Writes a line, where there is one.
+/// Writes a line if there is one.
 fn print_some<W: Write>(
     line: Option<Vec<u8>>,
     out: &mut Output<'_, W>,
     lines: &mut u64,
 ) -> Result<(), RunFault>
-    requires { IsWritable out.old }
     ensures ok { OnOk result (Prints W.contents out.old out.new lines.old lines.new
         (joined (texts_of (option_to_list line)))) }
     ensures err { IfErr result (Breaks W.contents out.old out.new lines.old
         (joined (texts_of (option_to_list line)))) }
-    ensures same_output { IsSameOutput out.old out.new }
-    ensures cause { TellsWrite out.new result }
+    ensures reports { ReportsPage out.old out.new result }
 {
     match line {
         None => Ok(()),
@@ -59,9 +55,9 @@ fn print_some<W: Write>(
     }
 }
 
-/// Tells a rule that fired, by the tracer behind it.
+/// Writes, keeps or counts the line of a rewrite if it is selected, from the tracer after the
+/// rewrite.
 fn write_fired<B: TermBank, W: Write>(
-    alloc: Global,
     engine: &mut Engine<B>,
     tracer: &mut Tracer,
     telling: &Telling<'_>,
@@ -75,7 +71,6 @@ fn write_fired<B: TermBank, W: Write>(
     requires stands { Stands engine.old.spec (B.store engine.old.bank) tracer.old }
     requires left { tracer.old.left ≤ telling.now.options.run.steps }
     requires telling { (source : List ℕ) × IsTelling source engine.old.spec telling.now }
-    requires open { IsWritable out.old }
     ensures same { SameEngine engine.old engine.new }
     ensures stands { OnOk result
         (Stands engine.old.spec (B.store engine.new.bank) tracer.new) }
@@ -97,19 +92,17 @@ fn write_fired<B: TermBank, W: Write>(
         (joined (fresh_lines (picks_by telling.now.options.picked) before
         (picked_lines source (shown_by telling.now.options) telling.now.options.run.steps
         (f.firing ∷ [])))) fault) }
-    ensures same_output { IsSameOutput out.old out.new }
-    ensures cause { TellsWrite out.new result }
+    ensures reports { ReportsTrace B.store engine.new out.old out.new result }
 {
-    match next_line(alloc, engine, tracer, telling, fired, kept) {
+    match next_line(engine, tracer, telling, fired, kept) {
         Ok(line) => print_some(line, out, lines),
-        Err(fault) => Err(fault_after(fault, *lines)),
+        Err(fault) => Err(engine_fault(fault, *lines)),
     }
 }
 
-/// Goes on to the next rule that fires, and tells it; or answers what the term comes to, where none
-/// fires any more.
+/// Continues to the next rewrite, and writes, keeps or counts its line if it is selected. If no
+/// rewrite is left, returns the outcome of the evaluation.
 fn write_turn<B: TermBank, W: Write>(
-    alloc: Global,
     engine: &mut Engine<B>,
     tracer: &mut Tracer,
     telling: &Telling<'_>,
@@ -121,7 +114,6 @@ fn write_turn<B: TermBank, W: Write>(
     requires within { IsWithin telling.now.options.run.steps
         (rest_of engine.old.spec (B.store engine.old.bank) tracer.old) }
     requires telling { (source : List ℕ) × IsTelling source engine.old.spec telling.now }
-    requires open { IsWritable out.old }
     ensures same { SameEngine engine.old engine.new }
     ensures list { IfOk result
         (λ outcome. IsKept (B.store engine.new.bank) tracer.new.saved.list) }
@@ -134,11 +126,10 @@ fn write_turn<B: TermBank, W: Write>(
         → Breaks W.contents out.old out.new lines.old
         (told_behind source (shown_by telling.now.options) telling.now.options.run.steps notes
         before (rest_of engine.old.spec (B.store engine.old.bank) tracer.old)) fault) }
-    ensures same_output { IsSameOutput out.old out.new }
-    ensures cause { TellsWrite out.new result }
+    ensures reports { ReportsTrace B.store engine.new out.old out.new result }
 {
     match tracer.next_event(engine) {
-        Err(fault) => Err(fault_after(fault, *lines)),
+        Err(fault) => Err(engine_fault(fault, *lines)),
         Ok(Event::Limit) => Ok(Some(Outcome::Limit)),
         Ok(Event::Value { term }) => {
             let steps = telling.options.run.steps - tracer.left();
@@ -146,15 +137,15 @@ fn write_turn<B: TermBank, W: Write>(
         }
         Ok(Event::Fired { rule, redex }) => {
             let fired = Fired { rule, redex };
-            write_fired(alloc, engine, tracer, telling, fired, kept, out, lines)?;
+            write_fired(engine, tracer, telling, fired, kept, out, lines)?;
             Ok(None)
         }
     }
 }
 
-/// Tells all rules that fire: what the term comes to.
+/// Writes, keeps or counts the lines of all selected rewrites, and returns the outcome of the
+/// evaluation.
 pub(crate) fn write_steps<B: TermBank, W: Write>(
-    alloc: Global,
     engine: &mut Engine<B>,
     tracer: &mut Tracer,
     telling: &Telling<'_>,
@@ -167,7 +158,6 @@ pub(crate) fn write_steps<B: TermBank, W: Write>(
         (rest_of engine.old.spec (B.store engine.old.bank) tracer.old) }
     requires telling { (source : List ℕ) × IsTelling source engine.old.spec telling.now }
     requires none { HasKept (picks_by telling.now.options.picked) [] kept.old }
-    requires open { IsWritable out.old }
     ensures same { SameEngine engine.old engine.new }
     ensures list { IfOk result
         (λ outcome. IsKept (B.store engine.new.bank) tracer.new.saved.list) }
@@ -188,11 +178,10 @@ pub(crate) fn write_steps<B: TermBank, W: Write>(
         → Breaks W.contents out.old out.new lines.old
         (told source (shown_by telling.now.options) telling.now.options.run.steps notes
         (rest_of engine.old.spec (B.store engine.old.bank) tracer.old)) fault) }
-    ensures same_output { IsSameOutput out.old out.new }
-    ensures cause { TellsWrite out.new result }
+    ensures reports { ReportsTrace B.store engine.new out.old out.new result }
 {
     'turns: loop {
-        if let Some(outcome) = write_turn(alloc, engine, tracer, telling, kept, out, lines)? {
+        if let Some(outcome) = write_turn(engine, tracer, telling, kept, out, lines)? {
             return Ok(outcome);
         }
     }

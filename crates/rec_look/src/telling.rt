@@ -1,13 +1,16 @@
-//! How traces are told.
+//! The data from which the lines of traces are made.
 
 use crate::options::TraceOptions;
 use rec_trace::Spot;
+use std::alloc::Global;
 
-/// What the lines of a specification's firings are made with.
+/// The data from which the lines of a specification's rewrites are made.
 #[derive(Drop)]
 pub(crate) struct Telling<'a> {
-    /// Where each rule begins.
+    /// The allocator.
+    pub(crate) alloc: Global,
+    /// The location at which each rule begins.
     pub(crate) spots: Vec<Spot>,
-    /// How firings are shown.
+    /// The settings of the run.
     pub(crate) options: TraceOptions<'a>,
 }

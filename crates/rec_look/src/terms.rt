@@ -1,43 +1,43 @@
-//! The traces of a specification's own terms and of given ones.
+//! The traces of EVAL terms and of input terms.
 
-ghost use Rattle.std.specs.Prelude.{◌≡◌, ◌<◌, ℕ, [], IfErr, List, OnOk, length};
+ghost use Rattle.std.specs.Prelude.{◌≡◌, ◌<◌, ℕ, [], IfErr, IfOk, List, OnOk, length};
 ghost use Rattle.rx_term.specs.Tree.{Tree, annotations};
-ghost use Rattle.rx_text.specs.Output.{IsSameOutput, IsWritable, Writes, contents_of};
+ghost use Rattle.rx_text.specs.Output.{Writes, contents_of};
 ghost use Rattle.rx_run.specs.Run.{Stops};
-ghost use Rattle.rx_run.specs.Streams.{TellsWrite};
 ghost use Rattle.rec_engine.specs.Engine.{SameEngine, Spells};
 ghost use Rattle.rec_run.specs.Output.{notes_text};
-ghost use Rattle.rec_look.specs.Inner.Pages.{Breaks, Prints};
+ghost use Rattle.rec_look.specs.Inner.Pages.{Breaks, Prints, ReportsTrace};
 ghost use Rattle.rec_look.specs.Traces.{shown_by, task_text, traces};
 ghost use Rattle.rec_look.specs.Inner.Telling.{AreGivenTerms, IsTelling, given_traces};
-ghost use Rattle.rec_run.specs.Output.{given_task};
+ghost use Rattle.rec_run.specs.Output.{given_limits, given_task, is_limited, limit_lines};
 ghost use Rattle.rec_run.specs.Reading.{own_task};
+ghost use Rattle.rec_run.specs.declared.options.ValueForm.TheVariants.{Plain};
 
 use crate::ending::write_trace;
 use crate::given::GivenTerms;
-use crate::page::fault_after;
 use crate::telling::Telling;
 use rec_engine::Engine;
+use rec_run::engine_fault;
 use rec_sorts::Letter;
 use rec_trace::Tracer;
 use rx_run::RunFault;
 use rx_term::TermBank;
 use rx_text::Output;
-use std::alloc::Global;
 use std::io::Write;
 
-/// Writes the trace of the specification's own term of this number.
+/// Writes the trace of the EVAL term of this number, and returns whether the step limit was too
+/// low.
 fn write_own_trace<B: TermBank, W: Write>(
-    alloc: Global,
     engine: &mut Engine<B>,
     i: u32,
     telling: &Telling<'_>,
     out: &mut Output<'_, W>,
     lines: &mut u64,
-) -> Result<(), RunFault>
+) -> Result<bool, RunFault>
     requires there { i < length engine.old.spec.terms }
     requires telling { (source : List ℕ) × IsTelling source engine.old.spec telling.now }
-    requires open { IsWritable out.old }
+    ensures limit { IfOk result (λ limited. limited ≡ is_limited engine.old.spec Plain
+        telling.now.options.run.steps (own_task engine.old.spec i)) }
     ensures same { SameEngine engine.old engine.new }
     ensures ok { OnOk result ((source : List ℕ) → IsTelling source engine.old.spec telling.now
         → Prints W.contents out.old out.new lines.old lines.new
@@ -48,25 +48,24 @@ fn write_own_trace<B: TermBank, W: Write>(
         → Breaks W.contents out.old out.new lines.old
         (task_text source engine.old.spec (shown_by telling.now.options)
         telling.now.options.run.steps (own_task engine.old.spec i)) fault) }
-    ensures same_output { IsSameOutput out.old out.new }
-    ensures cause { TellsWrite out.new result }
+    ensures reports { ReportsTrace B.store engine.new out.old out.new result }
 {
-    match Tracer::of_eval(alloc, engine, i, telling.options.run.steps) {
-        Ok(tracer) => write_trace(alloc, engine, tracer, telling, b"", out, lines),
-        Err(fault) => Err(fault_after(fault, *lines)),
+    match Tracer::of_eval(telling.alloc, engine, i, telling.options.run.steps) {
+        Ok(tracer) => write_trace(engine, tracer, telling, b"", out, lines),
+        Err(fault) => Err(engine_fault(fault, *lines)),
     }
 }
 
-/// Writes the traces of the specification's own terms.
+/// Writes the traces of all EVAL terms, and returns the number of limit lines.
 fn write_own_traces<B: TermBank, W: Write>(
-    alloc: Global,
     engine: &mut Engine<B>,
     telling: &Telling<'_>,
     out: &mut Output<'_, W>,
     lines: &mut u64,
-) -> Result<(), RunFault>
+) -> Result<u64, RunFault>
     requires telling { (source : List ℕ) × IsTelling source engine.old.spec telling.now }
-    requires open { IsWritable out.old }
+    ensures limits { IfOk result (λ limits. limits
+        ≡ limit_lines engine.old.spec [] Plain telling.now.options.run.steps) }
     ensures same { SameEngine engine.old engine.new }
     ensures ok { OnOk result ((source : List ℕ) → IsTelling source engine.old.spec telling.now
         → Prints W.contents out.old out.new lines.old lines.new
@@ -77,28 +76,29 @@ fn write_own_traces<B: TermBank, W: Write>(
         → Breaks W.contents out.old out.new lines.old
         (traces source engine.old.spec [] (shown_by telling.now.options)
         telling.now.options.run.steps) fault) }
-    ensures same_output { IsSameOutput out.old out.new }
-    ensures cause { TellsWrite out.new result }
+    ensures reports { ReportsTrace B.store engine.new out.old out.new result }
 {
+    let mut limits = 0;
     for i in 0..engine.eval_terms() {
-        write_own_trace(alloc, engine, i, telling, out, lines)?;
+        let limited = write_own_trace(engine, i, telling, out, lines)?;
+        limits += u64::from(limited);
     }
-    Ok(())
+    Ok(limits)
 }
 
-/// Writes the trace of a given term.
+/// Writes the trace of an input term, and returns whether the step limit was too low.
 fn write_given_trace<B: TermBank, W: Write>(
-    alloc: Global,
     engine: &mut Engine<B>,
     letters: &[Letter],
     notes: &[u8],
     telling: &Telling<'_>,
     out: &mut Output<'_, W>,
     lines: &mut u64,
-) -> Result<(), RunFault>
+) -> Result<bool, RunFault>
     requires given { (u : Tree) × Spells engine.old.spec letters.now u }
     requires telling { (source : List ℕ) × IsTelling source engine.old.spec telling.now }
-    requires open { IsWritable out.old }
+    ensures limit { IfOk result (λ limited. (u : Tree) → Spells engine.old.spec letters.now u
+        → limited ≡ is_limited engine.old.spec Plain telling.now.options.run.steps (given_task u)) }
     ensures same { SameEngine engine.old engine.new }
     ensures ok { OnOk result ((source : List ℕ) (u : Tree)
         → IsTelling source engine.old.spec telling.now → Spells engine.old.spec letters.now u
@@ -112,27 +112,27 @@ fn write_given_trace<B: TermBank, W: Write>(
         → Breaks W.contents out.old out.new lines.old
         (task_text source engine.old.spec (shown_by telling.now.options)
         telling.now.options.run.steps (given_task u)) fault) }
-    ensures same_output { IsSameOutput out.old out.new }
-    ensures cause { TellsWrite out.new result }
+    ensures reports { ReportsTrace B.store engine.new out.old out.new result }
 {
-    match Tracer::of_given(alloc, engine, letters, telling.options.run.steps) {
-        Ok(tracer) => write_trace(alloc, engine, tracer, telling, notes, out, lines),
-        Err(fault) => Err(fault_after(fault, *lines)),
+    match Tracer::of_given(telling.alloc, engine, letters, telling.options.run.steps) {
+        Ok(tracer) => write_trace(engine, tracer, telling, notes, out, lines),
+        Err(fault) => Err(engine_fault(fault, *lines)),
     }
 }
 
-/// Writes the traces of given terms.
+/// Writes the traces of input terms, and returns the number of limit lines.
 fn write_given_traces<B: TermBank, W: Write>(
-    alloc: Global,
     engine: &mut Engine<B>,
     terms: &GivenTerms,
     telling: &Telling<'_>,
     out: &mut Output<'_, W>,
     lines: &mut u64,
-) -> Result<(), RunFault>
+) -> Result<u64, RunFault>
     requires given { (us : List Tree) × AreGivenTerms engine.old.spec us terms.now }
     requires telling { (source : List ℕ) × IsTelling source engine.old.spec telling.now }
-    requires open { IsWritable out.old }
+    ensures limits { IfOk result (λ limits. (us : List Tree)
+        → AreGivenTerms engine.old.spec us terms.now
+        → limits ≡ given_limits engine.old.spec Plain telling.now.options.run.steps us) }
     ensures same { SameEngine engine.old engine.new }
     ensures ok { OnOk result ((source : List ℕ) (us : List Tree)
         → IsTelling source engine.old.spec telling.now
@@ -146,28 +146,31 @@ fn write_given_traces<B: TermBank, W: Write>(
         → Breaks W.contents out.old out.new lines.old
         (given_traces source engine.old.spec (shown_by telling.now.options)
         telling.now.options.run.steps us) fault) }
-    ensures same_output { IsSameOutput out.old out.new }
-    ensures cause { TellsWrite out.new result }
+    ensures reports { ReportsTrace B.store engine.new out.old out.new result }
 {
+    let mut limits = 0;
     for i in 0..terms.letters.len() {
         let letters = &terms.letters[i];
         let notes = &terms.notes[i];
-        write_given_trace(alloc, engine, letters, notes, telling, out, lines)?;
+        let limited = write_given_trace(engine, letters, notes, telling, out, lines)?;
+        limits += u64::from(limited);
     }
-    Ok(())
+    Ok(limits)
 }
 
-/// Writes the traces of the specification's own terms, and then those of given ones.
+/// Writes the traces of the EVAL terms and then those of the input terms, and returns the number of
+/// limit lines. If this number overflows, the error is `Memory`.
 pub(crate) fn write_traces<B: TermBank, W: Write>(
-    alloc: Global,
     engine: &mut Engine<B>,
     terms: &GivenTerms,
     telling: &Telling<'_>,
     out: &mut Output<'_, W>,
-) -> Result<(), RunFault>
+) -> Result<u64, RunFault>
     requires given { (us : List Tree) × AreGivenTerms engine.old.spec us terms.now }
     requires telling { (source : List ℕ) × IsTelling source engine.old.spec telling.now }
-    requires open { IsWritable out.old }
+    ensures limits { IfOk result (λ limits. (us : List Tree)
+        → AreGivenTerms engine.old.spec us terms.now
+        → limits ≡ limit_lines engine.old.spec us Plain telling.now.options.run.steps) }
     ensures ok { OnOk result ((source : List ℕ) (us : List Tree)
         → IsTelling source engine.old.spec telling.now
         → AreGivenTerms engine.old.spec us terms.now
@@ -180,10 +183,13 @@ pub(crate) fn write_traces<B: TermBank, W: Write>(
         → Stops fault (traces source engine.old.spec us (shown_by telling.now.options)
         telling.now.options.run.steps)
         (contents_of W.contents out.old) (contents_of W.contents out.new)) }
-    ensures same_output { IsSameOutput out.old out.new }
-    ensures cause { TellsWrite out.new result }
+    ensures reports { ReportsTrace B.store engine.new out.old out.new result }
 {
     let mut lines = 0;
-    write_own_traces(alloc, engine, telling, out, &mut lines)?;
-    write_given_traces(alloc, engine, terms, telling, out, &mut lines)
+    let own = write_own_traces(engine, telling, out, &mut lines)?;
+    let given = write_given_traces(engine, terms, telling, out, &mut lines)?;
+    match own.checked_add(given) {
+        Some(limits) => Ok(limits),
+        None => Err(RunFault::Memory { lines }),
+    }
 }

@@ -1,4 +1,4 @@
--- What a matcher answers for a term of a bank.
+-- What a matcher answers for a term of a store.
 use Rattle.std.proofs.Common.{refl, sym, ap, subst, arith, ◌∙◌, inl, inr, drop, length, is_some}
 use Rattle.std.specs.Option.{option_and_then}
 use Rattle.std.specs.Prelude.{ℕ, ℤ, zero, suc, ◌≡◌, ◌<◌, ◌≤◌, ◌+◌, ◌-◌, Bool, true, false, not, List, [], Option, Some, None, IsSome, get_or}
@@ -50,7 +50,7 @@ cannot-open name k u other = by (opened name k u) refl
     by None e = refl
     by (Some us) e = let h = opened_is name k u us e in absurd (other us h.0 h.1)
 
--- a left side matches no tree that is not opened
+-- a left-hand side matches no tree that is not opened
 unopened : (y : Spec) → fault y ≡ None → (l : X.Term) (j : ℕ) → j < length (symbols y) → (X.head l).bytes ≡ name_of y (Symbol j) → (u : Tree)
     → opened (name_of y (Symbol j)) (count (X.arguments l)) u ≡ None → binds y l u ≡ None
 unopened y kept (Apply x ts) j lt e u closed =

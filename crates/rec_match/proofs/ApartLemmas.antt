@@ -1,4 +1,4 @@
--- The variables of letters are declared, and do not repeat.
+-- The variables of items are declared, and do not repeat.
 use Rattle.std.proofs.Common.{refl, sym, ap, arith, ◌∙◌}
 use Rattle.std.proofs.lemmas.Bool.{eq-eqb}
 use Rattle.std.specs.Prelude.{ℕ, zero, suc, ◌≡◌, ◌<◌, ◌||◌, Bool, true, false, List, [], ◌∷◌, ◌++◌, All, Contains, length, nat_eq}
@@ -12,7 +12,7 @@ use Rattle.rec_sorts.specs.declared.letters.Meaning.TheVariants.{Symbol, Variabl
 use Rattle.rec_match.specs.Ordered.{among, with_letter, numbers_in}
 use Rattle.rec_match.proofs.PairedLemmas.{AreVariables, every-snoc}
 
--- each comes behind others that it is not among
+-- each comes after others that it is not among
 pub data Apart : List ℕ → Type 0 where
   empty : Apart []
   one_more : (vs : List ℕ) (v : ℕ) → Apart vs → (Contains vs v → ⊥) → Apart (vs ++ v ∷ [])

@@ -25,7 +25,7 @@ pub with_one_part : (s t : Substitution) (name : List ℕ) (u : Tree) → IsPart
 with_one_part s t name u part e = λ x v g. append_is s (record { name = name; value = u }) x v g (value_of t x ≡ Some v) (λ h. part x v h)
     (λ is_x is_v. subst (λ n. value_of t n ≡ Some v) is_x (e ∙ ap Some is_v))
 
--- what a name is not bound to where it is no variable
+-- what a name is not bound to if it is no variable
 pub unbound : (y : Spec) (s : Substitution) → BindsOnly y s → (name : List ℕ) → is_variable y name ≡ false → value_of s name ≡ None
 unbound y s only name e = by (value_of s name) refl
   where
@@ -217,7 +217,7 @@ mutual
     reach_all y g only_g ts (parts_at_variables y s t (instance g t)) s' only part,
   )
 
--- what makes the left side the tree binds its variables, and variables alone
+-- what makes the left-hand side the tree binds its variables, and variables alone
 pub binds_variables : (y : Spec) (l : Term) (u : Tree) (s : Substitution) → binds y l u ≡ Some s → BindsVariables y s l
 binds_variables y l u s e =
     let parts : Substitution = parts_at_variables y [] l u in

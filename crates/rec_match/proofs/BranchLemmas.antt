@@ -118,7 +118,7 @@ opened_state y register k z = record {
       changed (opened_cells y register (name_of y (Symbol k)) (arity_of y k) z.width) z.rows;
 }
 
--- a window behind children
+-- a window after children
 pub window_in : (cs window : List Child) (low q : ℕ) → low ≤ q → q - low < length window
     → child_at (cs ++ window) low (length cs) (length window) q ≡ get_or window (q - low) no_child
 window_in cs window low q le lt = by (nat_le low q) (nat_lt (q - low) (length window)) (le-leb low q le) (le-leb (suc (q - low)) (length window) lt)
@@ -399,6 +399,6 @@ pub share_rows : (ps : Parts) (r base : ℕ) (coded : List Coded) (shares rest :
     → map coded_of s.rows.items ≡ changed_codes (opened_codes ps r s.symbol base) coded
 share_rows ps r base coded shares rest s a p = subst (IsShare ps r base coded) (p.last s) (a.each (length rest) s p.there)
 
--- the number of a symbol in the bank
+-- the number of a symbol in the store
 pub number_is : (ss : List bank.Symbol) (k : ℕ) (s : bank.Symbol) → k < length ss → slice_get ss k ≡ Some s → number_at (numbers_of ss) k ≡ s.0
 number_is ss k s lt e = get_or-map (λ (s : bank.Symbol). s.0) ss k s 0 lt ∙ ap (λ (s : bank.Symbol). s.0) (get_or_from_slice_get ss k s s e)

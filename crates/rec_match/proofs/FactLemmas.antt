@@ -102,7 +102,7 @@ bare_at y taken w ts filled variable = by (symbol y w.bytes) (undeclared (symbol
         is_true true e = refl
         is_true false e = absurd (cc e)
 
--- the variables of a term occur in a left side
+-- the variables of a term occur in a left-hand side
 abbrev pub OccursIn : Spec → Term → Term → Type 0
 OccursIn y l t = Every (λ (m : Named). is_variable y m.name ≡ true → mentions (heads (subterms l)) m.name ≡ true) (named t)
 
@@ -110,7 +110,7 @@ OccursIn y l t = Every (λ (m : Named). is_variable y m.name ≡ true → mentio
 abbrev pub HasNoVariables : Spec → Term → Type 0
 HasNoVariables y t = Every (λ (m : Named). is_variable y m.name ≡ false) (named t)
 
--- the variables of a term have no arguments, and occur in a left side
+-- the variables of a term have no arguments, and occur in a left-hand side
 pub record IsRead (y : Spec) (l t : Term) : Type 0 where
   pub bare : AreBare y (named t)
   pub occurs : OccursIn y l t
@@ -120,7 +120,7 @@ pub record RuleFacts (y : Spec) (r : Rule) : Type 0 where
   pub right : IsRead y r.left r.right
   pub conditions : Every (λ c. IsRead y r.left c.left × IsRead y r.left c.right) r.conditions
 
--- what holds where all rules are kept
+-- what holds if all rules are kept
 pub record Facts (y : Spec) : Type 0 where
   pub symbols_differ : (k j : ℕ) → k < length (symbols y) → j < length (symbols y) → bytes_at (names (symbols y)) k ≡ bytes_at (names (symbols y)) j → k ≡ j
   pub variables_differ : (k j : ℕ) → k < length (variable_words y.variables) → j < length (variable_words y.variables)
@@ -256,7 +256,7 @@ mentions_append (w ∷ ws) vs name e P one other = by (bytes_eq w.bytes name) e 
     by false e one later = later e P one other
 
 mutual
-  -- a variable that occurs in a left side is bound
+  -- a variable that occurs in a left-hand side is bound
   pub occurring_bound : (y : Spec) (s : Substitution) (l : Term) → AreBare y (named l) → BindsVariables y s l → (name : List ℕ)
       → is_variable y name ≡ true → mentions (heads (subterms l)) name ≡ true → (v : Tree) × (value_of s name ≡ Some v)
   occurring_bound y s (Apply w ts) bare binding name variable e =

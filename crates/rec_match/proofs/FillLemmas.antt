@@ -13,7 +13,7 @@ use Rattle.rec_match.proofs.RunLemmas.{default_any}
 abbrev zero_term : Term
 zero_term = record { 0 = 0 }
 
--- the values at the first of some places stand on top of references, of which those from one on are the registers
+-- the values at the first of some places are on top of references, of which those from one on are the registers
 pub record Filling (ps : List Place) (first : ℕ) (old : List Term) (i : ℕ) (now : List Term) : Type 0 where
   pub values : List Term
   pub split : now ≡ old ++ values

@@ -1,4 +1,4 @@
--- The letters of a specification's terms: each has the arguments that it is declared with.
+-- The items of a specification's terms: each has the arguments that it is declared with.
 use Rattle.std.proofs.Common.{refl, sym, ap, subst, arith, ◌∙◌, length, length-append, take, reverse, map}
 use Rattle.std.specs.Prelude.{ℕ, zero, suc, ◌≡◌, ◌<◌, ◌+◌, ◌-◌, Bool, true, false, List, [], ◌∷◌, ◌++◌, Option, Some, None, All, get_or, nat_eq, bytes_eq}
 use Rattle.std.proofs.lemmas.Bool.{eqb-true}
@@ -47,7 +47,7 @@ all-reverse P [] h = All-nil P
 all-reverse P (x ∷ xs) h = subst (All P) (sym (reverse-append (x ∷ []) xs))
     (All-push P (reverse xs) x (all-reverse P xs (All-tail P x xs h)) (All-head P x xs h))
 
--- the declaration at a number is the first of its name, where no other has it
+-- the declaration at a number is the first of its name, if no other has it
 declared-nth : (ds : List Declaration) (k : ℕ) (d : Declaration) → k < length ds
     → ((j : ℕ) → j < k → bytes_at (names ds) j ≡ bytes_at (names ds) k → ⊥) → declared ds (bytes_at (names ds) k) ≡ Some (get_or ds k d)
 declared-nth [] k d lt apart = absurd (let none : ⊥ = omega (arith, lt) in none)
@@ -111,7 +111,7 @@ filled-rule y kept i r lt =
     of_conditions [] h = tt
     of_conditions (c ∷ cs) h = ((term c.left h.0, term c.right h.1.0), of_conditions cs h.1.1)
 
--- so do its letters
+-- so do its items
 pub letters-filled : (y : Spec) (ls : List Letter) → All (λ l. IsMeaning y l.meaning) ls → Every (IsFilledName y) (map (named_by y) ls) → AreFilled y ls
 letters-filled y [] meant h = All-nil (λ (l : Letter). (k : ℕ) → l.meaning ≡ Symbol k → arity_of y k ≡ l.count)
 letters-filled y (l ∷ ls) meant h =
@@ -135,7 +135,7 @@ take-front [] ys (suc n) e = absurd (let none : ⊥ = omega (arith, e) in none)
 take-front (x ∷ xs) ys zero e = absurd (let none : ⊥ = omega (arith, e) in none)
 take-front (x ∷ xs) ys (suc n) e = ap (λ zs. x ∷ zs) (take-front xs ys n (omega (arith, e)))
 
--- the letters of a term's arguments, and the head's
+-- the items of a term's arguments, and the head's
 pub record Parted (y : Spec) (ls : List Letter) (t : Term) : Type 0 where
   pub some : 0 < length ls
   pub front : map (named_by y) (take (length ls - 1) ls) ≡ named_all (X.arguments t)
@@ -153,7 +153,7 @@ parted y ls (Apply w ts) h =
           ∙ ap (λ xs. get_or xs (length ls - 1) (named_by y d)) h.1 ∙ get-last (named_all ts) m (length ls - 1) (named_by y d) at;
     }
 
--- the letters of a rule's left side
+-- the items of a rule's left-hand side
 pub left-letters : (y : Spec) (rules : List LetterRule) (i : ℕ) (x : LetterRule) (r : Rule) → Pairwise (IsLetterRule y) rules y.rules
     → i < length rules → AreLetters y (get_or rules i x).left.items (get_or y.rules i r).left
 left-letters y rules i x r are lt =
@@ -199,7 +199,7 @@ head-no_variable y kept rules i n v x l r are lt en el is =
     cc (sym (every-at (λ (r : Rule). is_variable y (X.head r.left).bytes ≡ false) y.rules (left_sides_apply y kept) i r (omega (arith, lt, long)))
     ∙ ap (is_variable y) name ∙ variable_is_one y v within)
 
--- what is kept of a rule's left side
+-- what is kept of a rule's left-hand side
 pub is-left : (y : Spec) → fault y ≡ None → (rules : List LetterRule) (i n : ℕ) (x : LetterRule) (l : Letter) (r : Rule) (s : LeftSide)
     → Pairwise (IsLetterRule y) rules y.rules → i < length rules → n ≡ length (get_or rules i x).left.items - 1
     → l ≡ get_or (get_or rules i x).left.items n l → IsHead y (get_or y.rules i r) s.symbol → s.count ≡ l.count
@@ -232,6 +232,6 @@ is-left y kept rules i n x l r s are lt en el head ec variables =
         × IsFilledName y (record { name = (X.head t).bytes; arguments = count (X.arguments t) })
     names-split (Apply w ts) h = let k = every_append (IsFilledName y) (named_all ts) (record { name = w.bytes; arguments = count ts } ∷ []) h in (k.0, k.1.0)
 
--- the variables of letters are those of a specification
+-- the variables of items are those of a specification
 pub letters-below : (y : Spec) (v : ℕ) (ls : List Letter) → v ≡ length (variable_words y.variables) → All (λ l. IsMeaning y l.meaning) ls → AreAllBelow v ls
 letters-below y v ls ev meant k d lt x is = let h : IsMeaning y (Variable x) = subst (IsMeaning y) is (meant k d lt) in omega (arith, h, ev)

@@ -1,4 +1,4 @@
--- The rules of a symbol from a number on, and terms that no left side matches.
+-- The rules of a symbol from a number on, and terms that no left-hand side matches.
 use Rattle.std.proofs.Common.{refl, sym, ap, subst, arith, ◌∙◌, inl, inr, drop, length}
 use Rattle.std.proofs.Math.ListN.{drop_of_length-le}
 use Rattle.std.specs.Prelude.{ℕ, zero, suc, ◌≡◌, ◌<◌, ◌≤◌, ◌+◌, ◌-◌, ◌⊎◌, List, [], ◌∷◌, Option, Some, None, get_or}
@@ -19,7 +19,7 @@ use Rattle.rec_match.proofs.FindLemmas.{first-matched, first-passed, side-is}
 no_rule : Rule
 no_rule = record { left = Apply (record { at = 0; bytes = [] }) X.none; right = Apply (record { at = 0; bytes = [] }) X.none; conditions = [] }
 
--- what is found stands at or after the first number
+-- what is found is at or after the first number
 found-after : (y : Spec) (rs : List Rule) (n : ℕ) (u : Tree) (m : NumberedMatch) → first_match y n rs u ≡ Some m → n ≤ m.number
 found-after y [] n u m e = absurd (cc e)
 found-after y (r ∷ rs) n u m e = by (binds y r.left u) e (λ f. found-after y rs (suc n) u m f)
@@ -39,7 +39,7 @@ which zero b = inl (omega arith)
 which (suc a) zero = inr (omega arith)
 which (suc a) (suc b) = elim (which a b) [ inl h ↦ inl (omega (arith, h)) | inr h ↦ inr (omega (arith, h)) ]
 
--- behind the last rule none matches
+-- after the last rule none matches
 pub nothing : (y : Spec) (j : ℕ) (u : Tree) → length y.rules ≤ j → first_match y j (drop j y.rules) u ≡ None
 nothing y j u le = ap (λ rs. first_match y j rs u) (drop_of_length-le y.rules le)
 
@@ -68,7 +68,7 @@ found-before y n (suc k) u = by_length (which (length y.rules) n) (found-before 
     by_length (inr lt) later = by_rule lt later (binds y (get_or y.rules n no_rule).left u) refl
     by_length (inl le) later = inl (nothing y n u le ∙ sym (nothing y (n + suc k) u (omega (arith, le))))
 
--- where none from one rule to another matches, none between does
+-- if none from one rule to another matches, none between does
 skips-between : (y : Spec) (name : List ℕ) (first from at : ℕ) → first ≤ from → from ≤ at → Skips y name first at → Skips y name from at
 skips-between y name first from at le le' skips vs =
     let e : first + (from - first) ≡ from = omega (arith, le) in

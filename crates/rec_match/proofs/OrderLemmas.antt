@@ -1,4 +1,4 @@
--- The variables of letters in the order in which they first occur, and their places.
+-- The variables of items in the order in which they first occur, and their places.
 use Rattle.std.proofs.Common.{refl, sym, ap, subst, arith, ◌∙◌, ◌+◌, take}
 use Rattle.std.proofs.Math.Seq.{take-suc}
 use Rattle.std.specs.Prelude.{ℕ, zero, suc, ◌≡◌, ◌<◌, ◌||◌, Bool, true, false, List, [], ◌∷◌, ◌++◌, Option, Some, None, All, Contains, length, get_or, nat_eq}
@@ -42,13 +42,13 @@ not-among (x ∷ vs) v out = by (nat_eq x v) refl (not-among vs v (λ c. out (su
     by true e later = absurd (out (zero, omega arith, eqb-true x v e))
     by false e later = later
 
--- the variables of some letters have their places
+-- the variables of some items have their places
 pub record Numbered (n : ℕ) (letters : List Letter) (vs : List ℕ) (ps : List (Option ℕ)) : Type 0 where
   pub places : ArePlacesIn vs n ps
   pub numbers : vs ≡ numbers_in [] letters
   pub within : All (λ v. v < n) vs
 
--- one letter more
+-- one item more
 pub numbered-symbol : (n : ℕ) (letters : List Letter) (i : ℕ) (d : Letter) (vs : List ℕ) (ps : List (Option ℕ)) (k : ℕ) → i < length letters
     → (get_or letters i d).meaning ≡ Symbol k → Numbered n (take i letters) vs ps → Numbered n (take (i + 1) letters) vs ps
 numbered-symbol n letters i d vs ps k lt e h = record {

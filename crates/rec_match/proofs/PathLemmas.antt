@@ -1,4 +1,4 @@
--- Straight paths: what the row at a node finds, the row at the node behind it finds.
+-- Straight paths: what the row at a node finds, the row at the node after it finds.
 use Rattle.std.proofs.Common.{refl, sym, ap, subst, arith, ◌∙◌, drop-cons}
 use Rattle.std.proofs.lemmas.List.{append-nil, append_assoc, length-append, length-set, get_or-set_other, reverse-append, reverse-reverse, set-get_or}
 use Rattle.std.proofs.Math.Seq.{take-suc}
@@ -37,7 +37,7 @@ use Rattle.rec_match.proofs.PartLemmas.{numbered_cells, cells_append}
 use Rattle.rec_match.proofs.RowLemmas.{goes_none, goes_agree, asked_append, tree_in_append, asked_from, found_none}
 use Rattle.rec_match.proofs.TaskLemmas.{added, goes_more, goes_written, leaf_steps, empty_steps, steps_more}
 
--- items behind others, the last first
+-- items after others, the last first
 pub reversed-next : {X : Type 0} (xs old mid new : List X) (i j : ℕ) (d : X) → j ≡ suc i → i < length xs → mid ≡ old ++ reverse (drop j xs)
     → new ≡ mid ++ get_or xs i d ∷ [] → new ≡ old ++ reverse (drop i xs)
 reversed-next xs old mid new i j d ej lt em en =
@@ -202,7 +202,7 @@ module _ (y : Spec) (ns : List ℕ) (ps : Parts) where
       → Steps y ns ps f ((record { node = n; width = width; rows = [] }) ∷ ts) f ts
   fail_done f ts n width e = empty_steps y ns ps f f ts n width [] refl (sym (ap (set f.nodes.items n) (sym e) ∙ set-get_or f.nodes.items n Fail)) refl refl
 
-  -- the rule stands at its node, and no rule behind it
+  -- the rule is at its node, and no rule after it
   pub end_steps : (ground : IsGround y ns ps) (f g h : Forest) (n width rule : ℕ) (pl : List Place) (cs : List Code) (next : ℕ) → AddsNode f g next
       → WritesTry g h n rule pl next → n < length f.nodes.items → code_places ps [] cs ≡ Some pl → Steps y ns ps f (row_task n width rule cs ∷ []) h []
   end_steps ground f g h n width rule pl cs next a w lt places =
@@ -272,7 +272,7 @@ module _ (y : Spec) (ns : List ℕ) (ps : Parts) where
     inside_is : inside ≡ length f.nodes.items + 1
     inside_is = let m = ap length a.nodes ∙ length-append f.nodes.items (Fail ∷ []) in let i = b.node_is in omega (arith, m, i)
 
-    -- what the row finds, the row behind finds
+    -- what the row finds, the row after finds
     module _ (v : ℕ → State) (ds : List Cell) (q : Asks y ps width cs cs' c k ds) (lt : n < length f.nodes.items)
         (here : v n ≡ record { width = width; rows = (record { number = rule; cells = ds }) ∷ [] })
         (away : v other ≡ record { width = width; rows = [] })
@@ -340,7 +340,7 @@ module _ (y : Spec) (ns : List ℕ) (ps : Parts) where
             ∙ ap (λ j. first_row y least (v j).rows (us ++ to_list args)) to_is);
       }
 
-    -- what is left behind the node
+    -- what is left after the node
     left_behind : (ds : List Cell) (q : Asks y ps width cs cs' c k ds) → AreThere (length ps.parts.items) (cs ++ c ∷ cs')
         → AreLeft y ps (width + arity_of y k) ((record { number = rule; codes = opened_codes }) ∷ [])
         ((record { number = rule; cells = q.front ++ (cells_from width q.terms ++ q.back) }) ∷ [])

@@ -1,4 +1,4 @@
--- The letters of a term leave its part on a stack.
+-- The items of a term leave its part on a stack.
 use Rattle.std.proofs.Common.{refl, sym, ap, subst, arith, ◌∙◌, inl, inr}
 use Rattle.std.proofs.lemmas.List.{append-nil, append_assoc, length-append, length-take-le, get_or_append_left, map-append}
 use Rattle.std.proofs.Math.Seq.{take-append_seam, drop-append_seam}
@@ -80,7 +80,7 @@ module _ (y : Spec) where
       parts_later (more t ts) [] lt h = absurd h
       parts_later (more t ts) (k ∷ ks) lt h = (part_later t k lt.0 h.0, parts_later ts ks lt.1 h.1)
 
-  -- one letter more, whose arguments are on top
+  -- one item more, whose arguments are on top
   pushed_letter : (ps qs : Parts) (l : Letter) (st ks ms : List ℕ) (t : Term) → IsFilled y l
       → named_by y l ≡ record { name = (Rattle.rec_syntax.specs.Syntax.head t).bytes; arguments = count (Rattle.rec_syntax.specs.Syntax.arguments t) }
       → IsWhole ps → Every (λ (a : ℕ). a < length ps.parts.items) ks → length ks ≡ count (Rattle.rec_syntax.specs.Syntax.arguments t)
@@ -183,7 +183,7 @@ module _ (y : Spec) where
       }
 
   mutual
-    -- the letters of a term, before others, leave its part on the stack
+    -- the items of a term, before others, leave its part on the stack
     pub term_pushed : (t : Term) (ls rest : List Letter) (ps qs : Parts) (st ms : List ℕ) → map (named_by y) ls ≡ named t → Every (IsFilled y) ls
         → IsWhole ps → Pushed ps st (ls ++ rest) qs ms → TermPushed ps st t rest qs ms
     term_pushed (Apply w ts) ls rest ps qs st ms e filled whole p =
@@ -226,7 +226,7 @@ module _ (y : Spec) where
           later = subst (λ xs. Pushed b.mid xs rest qs ms) (append_assoc st (a.n ∷ []) b.ks) b.later;
         }
 
--- a stack has the arguments of each letter of a term
+-- a stack has the arguments of each item of a term
 abbrev counts : List Named → List ℕ
 counts ms = map (λ (m : Named). m.arguments) ms
 
@@ -249,7 +249,7 @@ mutual
       (can_push_term t n (counts (named_all ts) ++ rest) (can_push_terms ts (suc n) rest
       (subst (λ k. CanPush k rest) (let e : n + suc (count ts) ≡ suc n + count ts = omega arith in e) h)))
 
--- one letter more of some
+-- one item more of some
 drop_next : (xs : List Letter) (i : ℕ) (d : Letter) → i < length xs → drop i xs ≡ get_or xs i d ∷ drop (i + 1) xs
 drop_next [] i d lt = absurd (let bad : ⊥ = omega (arith, lt) in bad)
 drop_next (x ∷ xs) zero d lt = refl
@@ -273,7 +273,7 @@ pushed_next letters i d ps mid st ms lt p can =
     length-take-le (length st - l.count) st (omega arith) in omega (arith, x, m)) in
     (subst (λ n. CanPush n (counts_of (drop (i + 1) letters))) (sym long) c.1, λ qs out h. subst (λ xs. Pushed ps st xs qs out) (sym next) (mid, ms, p, h))
 
--- the letters of a term can be put on any stack
+-- the items of a term can be put on any stack
 pub can_push : (y : Spec) (t : Term) (ls : List Letter) (n : ℕ) → map (named_by y) ls ≡ named t → CanPush n (counts_of ls)
 can_push y t ls n e = subst (CanPush n) (append-nil (counts (named t)) ∙ ap counts (sym e) ∙ same ls) (can_push_term t n [] tt)
   where
@@ -281,7 +281,7 @@ can_push y t ls n e = subst (CanPush n) (append-nil (counts (named t)) ∙ ap co
     same [] = refl
     same (l ∷ ls) = ap (λ ks. l.count ∷ ks) (same ls)
 
--- a term's letters leave its part on an empty stack
+-- a term's items leave its part on an empty stack
 pub part_pushed : (y : Spec) (t : Term) (ls : List Letter) (ps qs : Parts) (ms : List ℕ) → map (named_by y) ls ≡ named t → Every (IsFilled y) ls
     → IsWhole ps → Pushed ps [] ls qs ms → (n : ℕ) × PushesTerm y ps t qs n × (ms ≡ n ∷ [])
 part_pushed y t ls ps qs ms e filled whole p =

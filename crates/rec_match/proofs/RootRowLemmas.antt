@@ -84,7 +84,7 @@ pub record RowsBefore (y : Spec) (k : ℕ) (ps : Parts) (coded : List Coded) (i 
   pub left : AreLeft y ps (arity_of y k) coded (root_rows (name_of y (Symbol k)) (arity_of y k) 0 (take i y.rules))
 
 module _ (y : Spec) (kept : fault y ≡ None) (k : ℕ) (declared : k < length (symbols y)) where
-  -- a left side of another symbol
+  -- a left-hand side of another symbol
   other_left : (l : Term) (j : ℕ) → j < length (symbols y) → (R.head l).bytes ≡ name_of y (Symbol j) → j ≢ k
       → is_of (name_of y (Symbol k)) (arity_of y k) l ≡ false
   other_left l j lt e apart = by (bytes_eq (R.head l).bytes (name_of y (Symbol k))) refl
@@ -93,7 +93,7 @@ module _ (y : Spec) (kept : fault y ≡ None) (k : ℕ) (declared : k < length (
       by false q = refl
       by true q = absurd (apart ((facts y kept).symbols_differ j k lt declared (sym e ∙ bytes_eq-eq (R.head l).bytes (name_of y (Symbol k)) q)))
 
-  -- a left side of the symbol has as many arguments as the symbol
+  -- a left-hand side of the symbol has as many arguments as the symbol
   left_counted : (ps : Parts) (n : ℕ) (l : Term) → IsPart y ps n l → (R.head l).bytes ≡ name_of y (Symbol k) → count (R.arguments l) ≡ arity_of y k
   left_counted ps n (Apply w ts) part e = by (part_at ps n).meaning part.0
     where

@@ -1,4 +1,4 @@
--- The parts of rules' left sides.
+-- The parts of rules' left-hand sides.
 use Rattle.std.proofs.Common.{refl, sym, ap, subst, arith, ◌∙◌, inl, inr}
 use Rattle.std.proofs.lemmas.Bool.{cases_eq}
 use Rattle.std.proofs.lemmas.List.{length-append}
@@ -21,7 +21,7 @@ use Rattle.rec_match.proofs.ItemLemmas.{get-front, get-last}
 use Rattle.rec_match.proofs.LetterLemmas.{left-letters, filled-rule, letters-filled, pair-long}
 use Rattle.rec_match.proofs.PushLemmas.{part_pushed, can_push, part_later, more_long}
 
--- letters of a specification that is kept have as many arguments as they are declared with
+-- items of a specification that is kept have as many arguments as they are declared with
 filled_letters : (y : Spec) → fault y ≡ None → (ls : List Letter) → All (λ (l : Letter). IsMeaning y l.meaning) ls → AreFilled y ls → Every (IsFilled y) ls
 filled_letters y kept [] meant filled = tt
 filled_letters y kept (l ∷ ls) meant filled = (
@@ -44,7 +44,7 @@ filled_letters y kept (l ∷ ls) meant filled = (
         )
     by (Variable v) e = let lt = subst (IsMeaning y) e own in subst (λ n. IsHead y n (name_of y n) l.count) (sym e) (lt, refl, variable_is_one y v lt)
 
--- the letters of a rule's left side
+-- the items of a rule's left-hand side
 pub left_filled : (y : Spec) → fault y ≡ None → (rules : List LetterRule) (i : ℕ) (x : LetterRule) (r : Rule)
     → Pairwise (IsLetterRule y) rules y.rules → i < length rules → Every (IsFilled y) (get_or rules i x).left.items
 left_filled y kept rules i x r are lt =
@@ -54,7 +54,7 @@ left_filled y kept rules i x r are lt =
     filled_letters y kept ls letters.0 (letters-filled y ls letters.0
     (subst (λ ms. Every (Rattle.rec_match.proofs.LetterLemmas.IsFilledName y) ms) (sym letters.1) (filled-rule y kept i r (omega (arith, lt, long))).left))
 
--- one left side more
+-- one left-hand side more
 pub left_parts_more : (y : Spec) → fault y ≡ None → (rules : List LetterRule) (i : ℕ) (x : LetterRule) (ps qs : Parts) (numbers numbers' ms : List ℕ)
     (d : ℕ) → Pairwise (IsLetterRule y) rules y.rules → i < length rules
     → AreLeftParts y ps numbers i → Pushed ps [] (get_or rules i x).left.items qs ms → numbers' ≡ numbers ++ get_or ms 0 d ∷ []
@@ -103,7 +103,7 @@ left_parts_more y kept rules i x ps qs numbers numbers' ms d are lt h p e = reco
           part_later y ps qs own.more h.whole (get_or y.rules j r).left (get_or numbers j 0) o.0 o.1,
         )
 
--- a left side leaves one part
+-- a left-hand side leaves one part
 pub left_some : (y : Spec) → fault y ≡ None → (rules : List LetterRule) (i : ℕ) (x : LetterRule) (ps qs : Parts) (ms : List ℕ)
     → Pairwise (IsLetterRule y) rules y.rules → i < length rules → IsWhole ps → Pushed ps [] (get_or rules i x).left.items qs ms → length ms ≡ 1
 left_some y kept rules i x ps qs ms are lt whole p =
@@ -118,7 +118,7 @@ left_some y kept rules i x ps qs ms are lt whole p =
       conditions = [];
     }
 
--- a left side's letters can be put on an empty stack
+-- a left-hand side's items can be put on an empty stack
 pub left_can : (y : Spec) (rules : List LetterRule) (i : ℕ) (x : LetterRule) (n : ℕ) → Pairwise (IsLetterRule y) rules y.rules → i < length rules
     → CanPush n (counts_of (get_or rules i x).left.items)
 left_can y rules i x n are lt = can_push y (get_or y.rules i no_rule).left (get_or rules i x).left.items n (left-letters y rules i x no_rule are lt).1

@@ -1,4 +1,4 @@
--- A matcher that is made of the left sides of a specification's rules.
+-- A matcher that is made of the left-hand sides of a specification's rules.
 use Rattle.std.proofs.Common.{refl, sym, ap, subst, arith, ◌∙◌, inl, inr, length, length-append, drop}
 use Rattle.std.specs.Prelude.{ℕ, zero, suc, ◌≡◌, ◌≢◌, ◌<◌, ◌≤◌, ◌+◌, ◌-◌, ◌⊎◌, Bool, true, false, ◌&&◌}
 use Rattle.std.specs.Prelude.{not, List, [], ◌∷◌, ◌++◌, Option, Some, None, get_or, nat_eq, bytes_eq}
@@ -37,7 +37,7 @@ opened-other a b c vs e = ap at e
     at t = elim ((t && beq (not (plain_name a)) (not (plain_name b)) && trees_eq vs vs && trees_eq none none) && nat_eq (count_of vs) c)
         [ true ↦ Some vs | false ↦ None ]
 
--- a left side matches no application of another symbol
+-- a left-hand side matches no application of another symbol
 pub other-head : (y : Spec) → fault y ≡ None → (l : X.Term) (j k : ℕ) → j < length (symbols y) → k < length (symbols y)
     → (head l).bytes ≡ name_of y (Symbol j) → j ≢ k → (vs : Trees) → binds y l (application (name_of y (Symbol k)) vs) ≡ None
 other-head y kept (Apply w ts) j k ltj ltk e apart vs =
@@ -85,7 +85,7 @@ some-at : {A : Type 0} (xs : List A) (i : ℕ) → i < length xs → A
 some-at [] i lt = absurd (let bad : ⊥ = omega (arith, lt) in bad)
 some-at (x ∷ xs) i lt = x
 
--- a left side has one symbol
+-- a left-hand side has one symbol
 pub one-head : (y : Spec) → fault y ≡ None → (r : Rule) (j k : ℕ) → IsHead y r j → IsHead y r k → j ≡ k
 one-head y kept r j k a b = (facts y kept).symbols_differ j k a.declared b.declared (sym a.head ∙ b.head)
 

@@ -1,4 +1,4 @@
--- One step of a walk over a left side, in whatever order the arguments come after it.
+-- One step of a walk over a left-hand side, in whatever order the arguments come after it.
 use Rattle.std.proofs.Common.{refl, sym, ap, subst, ◌∙◌}
 use Rattle.std.specs.Prelude.{◌≡◌, Bool, true, false, Option, Some, None}
 use Rattle.rx_term.specs.Tree.{Tree, Trees}

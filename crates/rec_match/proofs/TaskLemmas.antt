@@ -68,7 +68,7 @@ extends_more f g h s t u x z = record {
   states = λ n lt. (let a = x.nodes in z.states n (omega (arith, lt, a)) ∙ x.states n lt);
 }
 
--- what stands behind a list
+-- what is after a list
 pub slice_seam : {X : Type 0} (xs ys : List X) → slice_range (xs ++ ys) (length xs) (length xs + length ys) ≡ ys
 slice_seam [] ys = ap (λ n. take n ys) (let e : (0 + length ys) - 0 ≡ length ys = omega arith in e) ∙ take_all (length ys) ys (omega arith)
 slice_seam (x ∷ xs) ys = ap (λ n. take n (drop (length xs) (xs ++ ys)))
@@ -308,7 +308,7 @@ module _ (y : Spec) (ns : List ℕ) (ps : Parts) where
               ∙ ap (λ k. (let v : State = record { width = k; rows = b ∷ bs } in v)) grow.tasks.0.width
               ∙ ap (λ k. (let v : State = record { width = width; rows = (record { number = k; cells = b.cells }) ∷ bs } in v)) (sym left.are.0.0)
 
-  -- a node that waits where no row is left
+  -- a node that waits if no row is left
   pub empty_steps : (f g : Forest) (ts : List Task) (n width : ℕ) (coded : List Coded) → coded ≡ [] → g.nodes.items ≡ set f.nodes.items n Fail
       → g.places.items ≡ f.places.items → g.children.items ≡ f.children.items
       → Steps y ns ps f ((record { node = n; width = width; rows = coded }) ∷ ts) g ts

@@ -26,7 +26,7 @@ use Rattle.rec_match.proofs.NextLemmas.{which, nothing}
 use Rattle.rec_match.proofs.SkipLemmas.{other-head}
 use Rattle.rec_match.proofs.ValueLemmas.{side-paired}
 
--- the symbols in a bank have numbers
+-- the symbols in a store have numbers
 pub linked-numbers : (y : Spec) (w : Store) (ss : List bank.Symbol) → AreLinked y w ss → AreNumbers y w (numbers_of ss)
 linked-numbers y w ss linked k lt =
     let long = linked.counted in
@@ -94,7 +94,7 @@ found-all w m k args bind found runs y ss linked matcher lt counted =
 
 module _ (w : Store) (m : Matcher) (k n at : ℕ) (work args bind : List Term) (found : Option ℕ) (can : CanFind w m k n at work)
     (ea : args ≡ drop (length work - n) work) (runs : FoundFor w m k at args bind found) where
-  -- behind the last rule the trees find none
+  -- after the last rule the trees find none
   trees-find-none : length m.sides.items ≤ at → FindsFor w m at work bind found
   trees-find-none le y ss below own j linked matcher ltj head split counted =
       by found (runs can.spec can.symbols can.linked can.matcher can.declared
@@ -106,7 +106,7 @@ module _ (w : Store) (m : Matcher) (k n at : ℕ) (work args bind : List Term) (
       by (Some i) h = absurd (cc (sym (nothing can.spec at (application (name_of can.spec (Symbol k)) (from_list (held_trees w args))) (let l =
           can.matcher.ruled in omega (arith, l, le))) ∙ h.first))
 
-  -- where there is a rule, it is one of the symbol
+  -- if there is a rule, it is one of the symbol
   trees-find-one : at < length m.sides.items → FindsFor w m at work bind found
   trees-find-one lt y ss below own j linked matcher ltj head split counted =
       by found (runs y ss linked matcher (subst (λ i. i < length (symbols y)) (sym same) ltj)

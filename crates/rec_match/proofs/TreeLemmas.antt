@@ -70,7 +70,7 @@ module _ (y : Spec) (ns : List ℕ) (ps : Parts) where
       grown n lt (inl w) = absurd w
       grown n lt (inr r) = inr (subst (Grows y ns e s n) (sym (same n lt)) (grows_later y ns f e s s extends n (get_or f.nodes.items n Fail) lt r))
 
-  -- what a tree's root stands for is what can grow first
+  -- what a tree's root represents is what can grow first
   pub can_root : (f g : Forest) (us : List Task) (width : ℕ) (coded : List Coded) (root : ℕ) (s : ℕ → State) (rows : List Row)
       → Adds f [] g us width coded root → Growing y ns ps f [] s → AreLeft y ps width coded rows
       → (t : ℕ → State) × Growing y ns ps g us t

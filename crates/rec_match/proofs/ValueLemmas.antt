@@ -23,7 +23,7 @@ use Rattle.rec_match.proofs.FactLemmas.{AreBare, facts}
 use Rattle.rec_match.proofs.KeyLemmas.{IsKeyed, binds-keys, names_in-append, last-name, numbers-names}
 use Rattle.rec_match.proofs.LetterLemmas.{all-reverse}
 
--- a left side binds the variables of its letters in the order in which they first occur
+-- a left-hand side binds the variables of its items in the order in which they first occur
 pub left-keys : (y : Spec) → fault y ≡ None → (letters : List Letter) → All (λ l. IsMeaning y l.meaning) letters → (l : X.Term) (k : ℕ)
     → k < length (symbols y) → (X.head l).bytes ≡ name_of y (Symbol k) → map (named_by y) letters ≡ named_all (X.arguments l) → AreBare y (named l)
     → (u : Tree) (s : Substitution) → binds y l u ≡ Some s → IsKeyed s × (keys s ≡ map (λ v. name_of y (Variable v)) (numbers_in [] letters))
@@ -52,12 +52,12 @@ paired-values y (v ∷ vs) (b ∷ s) e =
     rest-is : (a b : List ℕ) (xs ys : List (List ℕ)) → a ∷ xs ≡ b ∷ ys → xs ≡ ys
     rest-is a b xs ys e = cc e
 
--- the letters of a left side
+-- the items of a left-hand side
 pub side-meant : (y : Spec) (ss : List bank.Symbol) (m : Matcher) (i : ℕ) (r : Rule) (side : IsSide y ss m i r) → All (λ l. IsMeaning y l.meaning) side.letters
 side-meant y ss m i r side = subst (λ ls. All (λ l. IsMeaning y l.meaning) ls) (reverse-reverse side.letters)
     (all-reverse (λ (l : Letter). IsMeaning y l.meaning) (reverse side.letters) side.meant)
 
--- what a left side binds, with values in the order in which its variables first occur
+-- what a left-hand side binds, with values in the order in which its variables first occur
 pub record Paired (y : Spec) (w : Store) (m : Matcher) (i : ℕ) (bind : List Term) (s : Substitution) : Type 0 where
   pub same : SameValues (paired y (variables_at m i) (held_trees w bind)) s
   pub counted : length bind ≡ length (variables_at m i)

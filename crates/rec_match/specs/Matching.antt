@@ -1,4 +1,4 @@
--- What a matcher keeps of left sides, and what it finds.
+-- Matchers, and the rules that they find.
 use Rattle.std.specs.Prelude.{ℕ, ◌≡◌, ◌<◌, ◌≤◌, List, [], ◌∷◌, ◌++◌, Option, Some, None, All, map}
 use Rattle.std.specs.Prelude.{◌-◌, reverse, length, get_or, drop, zero, suc}
 use Rattle.rx_term.specs.Tree.{Tree, Trees, from_list}
@@ -25,54 +25,56 @@ use Rattle.rec_match.specs.declared.forest.Hit.{Hit}
 use Rattle.rec_match.specs.declared.matcher.LeftSide.{LeftSide}
 use Rattle.rec_match.specs.declared.matcher.Matcher.{Matcher}
 
--- the numbers of a bank's symbols
+-- numbers_of ss: the numbers of a store's symbols
 abbrev pub numbers_of : List bank.Symbol → List ℕ
 numbers_of ss = map (λ (s : bank.Symbol). s.0) ss
 
--- variables with values
+-- paired y vs ts: variables with their values
 abbrev pub paired : Spec → List ℕ → List Tree → Substitution
 paired y (v ∷ vs) (t ∷ ts) = (record { name = name_of y (Variable v); value = t }) ∷ paired y vs ts
 paired y _ _ = []
 
--- two substitutions give each name the same
+-- SameValues s s': two substitutions give each name the same value
 abbrev pub SameValues : Substitution → Substitution → Type 0
 SameValues s s' = (name : List ℕ) → value_of s name ≡ value_of s' name
 
--- the first place of a number
+-- FirstAt xs v p: `p` is the first index of `v`
 abbrev pub FirstAt : List ℕ → ℕ → ℕ → Type 0
 FirstAt [] v p = ⊥
 FirstAt (x ∷ xs) v zero = x ≡ v
 FirstAt (x ∷ xs) v (suc p) = (x ≡ v → ⊥) × FirstAt xs v p
 
--- letters of symbols have as many arguments as these are declared with
+-- AreFilled y ls: each symbol has the declared number of arguments
 abbrev pub AreFilled : Spec → List Letter → Type 0
 AreFilled y ls = All (λ (l : Letter). (k : ℕ) → l.meaning ≡ Symbol k → arity_of y k ≡ l.count) ls
 
--- from one rule to another no rule matches an application of the name
+-- Skips y name from at: no rule between the two matches an application of the name
 abbrev pub Skips : Spec → List ℕ → ℕ → ℕ → Type 0
 Skips y name from at = (vs : Trees)
     → first_match y from (drop from y.rules) (application name vs)
     ≡ first_match y at (drop at y.rules) (application name vs)
 
--- what is kept of a rule's left side, by the rule's number
+-- symbol_at m i: the symbol of rule `i`
 abbrev pub symbol_at : Matcher → ℕ → ℕ
 symbol_at m i = get_or (map (λ (s : LeftSide). s.symbol) m.sides.items) i 0
 
+-- count_at m i: the number of arguments of that symbol
 abbrev pub count_at : Matcher → ℕ → ℕ
 count_at m i = get_or (map (λ (s : LeftSide). s.count) m.sides.items) i 0
 
+-- next_at m i: the next rule of the same symbol
 abbrev pub next_at : Matcher → ℕ → ℕ
 next_at m i = get_or (map (λ (s : LeftSide). s.next) m.sides.items) i 0
 
--- the variables of a rule, in the order in which they first occur
+-- variables_at m i: the variables of a rule, in the order of their first occurrence
 abbrev pub variables_at : Matcher → ℕ → List ℕ
 variables_at m i = get_or (map (λ (s : LeftSide). s.variables.items) m.sides.items) i []
 
--- the rule of a number, where there is one, has this head
+-- HeadAt m i k: if rule `i` exists, its symbol is `k`
 abbrev pub HeadAt : Matcher → ℕ → ℕ → Type 0
 HeadAt m i k = i < length m.sides.items → symbol_at m i ≡ k
 
--- a left side is that of a rule
+-- IsSide y ss m i r: entry `i` of the matcher is that of the rule's left-hand side
 pub record IsSide (y : Spec) (ss : List bank.Symbol) (m : Matcher) (i : ℕ) (r : Rule) : Type 0 where
   pub declared : symbol_at m i < length (symbols y)
   pub head : (R.head r.left).bytes ≡ name_of y (Symbol (symbol_at m i))
@@ -87,7 +89,7 @@ pub record IsSide (y : Spec) (ss : List bank.Symbol) (m : Matcher) (i : ℕ) (r 
   pub skips : Skips y (name_of y (Symbol (symbol_at m i))) (suc i) (next_at m i)
   pub next : HeadAt m (next_at m i) (symbol_at m i)
 
--- a matcher is that of a specification
+-- IsMatcher y ss m: `m` is the matcher of a specification with these symbols
 pub record IsMatcher (y : Spec) (ss : List bank.Symbol) (m : Matcher) : Type 0 where
   pub kept : fault y ≡ None
   pub linked : m.links ≡ ss
@@ -99,7 +101,7 @@ pub record IsMatcher (y : Spec) (ss : List bank.Symbol) (m : Matcher) : Type 0 w
       × HeadAt m (get_or m.heads.items k d) k
   pub forest : IsForest y (numbers_of ss) m.forest
 
--- a rule that matches, with the values of its variables in the order in which they first occur
+-- HasFound: rule `i` matches, and `bind` has the values of its variables
 pub record HasFound (y : Spec) (w : Store) (m : Matcher) (name : List ℕ) (at : ℕ)
     (args bind : List Term) (i : ℕ) : Type 0 where
   pub values : Substitution
@@ -111,13 +113,13 @@ pub record HasFound (y : Spec) (w : Store) (m : Matcher) (name : List ℕ) (at :
   pub head : symbol_at m i ≡ symbol_at m at
   pub held : AllHeld w bind
 
--- the least rule at or after a number that matches; or there is none
+-- Finds: the lowest-numbered rule, at least `at`, that matches; or there is none
 abbrev pub Finds : Spec → Store → Matcher → List ℕ → ℕ → List Term → List Term → Option ℕ → Type 0
 Finds y w m name at args bind (Some i) = HasFound y w m name at args bind i
 Finds y w m name at args bind None =
     first_match y at (drop at y.rules) (application name (from_list (held_trees w args))) ≡ None
 
--- a symbol, a rule of it from which on to look, and its arguments as the last of some references
+-- CanFind: rule `at` belongs to the symbol, whose arguments are the last references
 pub record CanFind (w : Store) (m : Matcher) (symbol count at : ℕ) (work : List Term) : Type 0 where
   pub spec : Spec
   pub symbols : List bank.Symbol
@@ -128,15 +130,14 @@ pub record CanFind (w : Store) (m : Matcher) (symbol count at : ℕ) (work : Lis
   pub counted : count ≡ arity_of spec symbol
   pub long : count ≤ length work
 
--- what is found among the rules from a number on, for the last references of a list
+-- FindsFor: the result of a search from rule `at` on, for the last references of a list
 abbrev pub FindsFor : Store → Matcher → ℕ → List Term → List Term → Option ℕ → Type 0
 FindsFor w m at work bind found = (y : Spec) (ss : List bank.Symbol) (below args : List Term)
     (k : ℕ) → AreLinked y w ss → IsMatcher y ss m → k < length (symbols y) → HeadAt m at k
     → work ≡ below ++ args → (at < length m.sides.items → count_at m at ≡ length args)
     → Finds y w m (name_of y (Symbol k)) at args bind found
 
--- what is found for the last of some references, which begin at a place, and what is left of the
--- list then
+-- FindsOn: the result of a search, and the list of references after it
 abbrev pub FindsOn : Store → Matcher → ℕ → ℕ → List Term → List Term → Option Hit → Type 0
 FindsOn w m first at old new (Some found) =
     StandAbove m.forest first (length old) new found.values
@@ -144,16 +145,15 @@ FindsOn w m first at old new (Some found) =
     × IsFoundBy m.forest found
 FindsOn w m first at old new None = FindsFor w m at old [] None × (new ≡ old)
 
--- the first rule of a symbol
+-- first_rule m k: the first rule of a symbol
 abbrev pub first_rule : Matcher → ℕ → ℕ
 first_rule m k = get_or m.heads.items k 0
 
--- so many of a symbol's trees find no rule for the last references of a list
+-- LeavesOthers: the first `n` trees of a symbol find no rule for the last references of a list
 abbrev pub LeavesOthers : Store → Matcher → ℕ → ℕ → ℕ → List Term → Type 0
 LeavesOthers w m k count n work = NoneBefore w m.forest k 0 (drop (length work - count) work) n
 
--- what a first look among all rules of a symbol finds for the last references of a list, and what
--- is left of it then
+-- Glances: the result of the fast path over all rules of a symbol, and the references after it
 abbrev pub Glances : Store → Matcher → ℕ → ℕ → List Term → List Term → Glance → Type 0
 Glances w m k count old new (Hits hit) =
     FindsOn w m (length old - count) (first_rule m k) old new (Some hit)

@@ -1,4 +1,4 @@
-//! What is kept of the left sides of rules.
+//! Construction of a matcher.
 
 ghost use Rattle.std.specs.Prelude.{◌≡◌, ◌<◌, [], All, IfOk, length, get_or, None};
 ghost use Rattle.rec_sorts.specs.Lookup.{symbols};
@@ -17,8 +17,8 @@ use crate::trees::trees;
 use rec_sorts::{Checked, Letter, LetterRule, Links, Meaning};
 use std::alloc::{AllocError, Global};
 
-/// The variables of letters come behind others, in the order in which they first occur, and get
-/// their places.
+/// Appends the variables of these items that are not listed yet, in the order of their first
+/// occurrence, and records their positions.
 fn push_variables(
     letters: &[Letter],
     places: &mut Places,
@@ -49,8 +49,8 @@ fn push_variables(
     Ok(())
 }
 
-/// The variables of letters in the order in which they first occur. None has a place before and
-/// afterwards.
+/// Returns the variables of these items in the order of their first occurrence. `places` has no
+/// positions before and after the call.
 fn variables_of(
     alloc: Global,
     letters: &[Letter],
@@ -67,7 +67,7 @@ fn variables_of(
     Ok(variables)
 }
 
-/// The number of a rule's symbol.
+/// Returns the symbol at the root of a rule's left-hand side.
 fn head(checked: &Checked, rules: &[LetterRule], rule: usize) -> u32
     requires rule { rule < length rules.now }
     requires kept { fault checked.now.spec ≡ None }
@@ -81,7 +81,7 @@ fn head(checked: &Checked, rules: &[LetterRule], rule: usize) -> u32
     }
 }
 
-/// The numbers of the rules' symbols.
+/// Returns the symbols at the roots of all left-hand sides.
 fn heads(alloc: Global, checked: &Checked) -> Result<Vec<u32>, AllocError>
     ensures { IfOk result (λ v. AreHeads checked.now.spec v.items) }
 {
@@ -93,7 +93,7 @@ fn heads(alloc: Global, checked: &Checked) -> Result<Vec<u32>, AllocError>
     Ok(symbols)
 }
 
-/// What is kept of a rule's left side, with the rule that comes next.
+/// Returns the entry of a rule's left-hand side; `next` is the next rule of the same symbol.
 fn side(
     checked: &Checked,
     rules: &[LetterRule],
@@ -124,7 +124,7 @@ fn side(
     })
 }
 
-/// The chains of the rules of each symbol.
+/// Returns the rule chain of each symbol.
 fn rule_chains(alloc: Global, checked: &Checked) -> Result<Chains, AllocError>
     ensures { IfOk result (ChainsRules checked.now.spec) }
 {
@@ -133,7 +133,7 @@ fn rule_chains(alloc: Global, checked: &Checked) -> Result<Chains, AllocError>
     Ok(chains)
 }
 
-/// What is kept of the rules' left sides, with the rules that come next.
+/// Returns the entries of all left-hand sides; `nexts` has the next rule of each.
 fn sides(alloc: Global, checked: &Checked, nexts: &[u32]) -> Result<Vec<LeftSide>, AllocError>
     requires { length nexts.now ≡ length checked.now.spec.rules }
     ensures { IfOk result (λ v. (fs : _) → AreHeads checked.now.spec fs
@@ -149,7 +149,9 @@ fn sides(alloc: Global, checked: &Checked, nexts: &[u32]) -> Result<Vec<LeftSide
 }
 
 impl Matcher {
-    /// The left sides of a specification's rules.
+    /// Builds the matcher of a specification for a store with this symbol map. The only error is
+    /// out of memory. The work is bounded by a constant plus a multiple of the size of the
+    /// left-hand sides.
     pub fn build(alloc: Global, checked: &Checked, links: &Links) -> Result<Matcher, AllocError>
         requires { length links.now ≡ length (symbols checked.now.spec) }
         ensures { IfOk result (IsMatcher checked.now.spec links.now) }

@@ -1,4 +1,4 @@
-//! How matching trees grow: each node that waits is written, and the nodes behind it wait then.
+//! Growth of matching trees: each pending node is written, and its children become pending.
 
 ghost use Rattle.std.specs.Prelude.{◌≡◌, ◌+◌, ◌<◌, ◌≤◌, ◌^◌, ◌∷◌, [], All, IfOk, length, map};
 ghost use Rattle.rec_sorts.specs.Lookup.{symbols};
@@ -34,7 +34,7 @@ use crate::switch::{Window, look_cost, no_children, window_of};
 use rec_sorts::{Checked, Links};
 use std::alloc::{AllocError, Global};
 
-/// A node that waits: how many registers there are, and what is left to ask.
+/// A pending node: the number of registers, and the rows with the tests that remain.
 #[derive(Drop)]
 pub(crate) struct Pending {
     pub(crate) node: u32,
@@ -42,15 +42,15 @@ pub(crate) struct Pending {
     pub(crate) rows: Vec<CodeRow>,
 }
 
-/// What has grown so far, and the nodes that wait.
+/// The forest so far, and the pending nodes.
 #[derive(Drop)]
 pub(crate) struct Growth {
     pub(crate) forest: Forest,
     pub(crate) pending: Vec<Pending>,
 }
 
-/// What trees are grown with: what has grown, marks of symbols, how much may still be done, and
-/// how many nodes there may be.
+/// The state of tree building: the growth, marks of symbols, the fuel that is left, and the largest
+/// number of nodes.
 #[derive(Drop)]
 pub(crate) struct Work {
     pub(crate) growth: Growth,
@@ -60,7 +60,7 @@ pub(crate) struct Work {
 }
 
 impl Growth {
-    /// One node more, which waits.
+    /// Adds a pending node.
     fn add(&mut self, width: u32, rows: Vec<CodeRow>) -> Result<u32, AllocError>
         ensures { IfOk result (Adds self.old.forest (tasks_of self.old) self.new.forest
             (tasks_of self.new) width (map coded_of rows.items)) }
@@ -70,8 +70,8 @@ impl Growth {
         Ok(node)
     }
 
-    /// The first row at a node that waits, where nothing but its values is left to ask; the other
-    /// rows wait behind it.
+    /// Writes a pending node as a leaf for the first row, which has no tests left; the remaining
+    /// rows become a pending node after it.
     fn write_leaf(
         &mut self,
         node: u32,
@@ -91,7 +91,7 @@ impl Growth {
 }
 
 impl Work {
-    /// Nothing has grown so far, and none of so many symbols is marked.
+    /// Returns the state before any growth, with no marked symbol.
     pub(crate) fn new(alloc: Global, symbols: u32, fuel: u64) -> Result<Work, AllocError>
         ensures nodes { IfOk result (λ w. w.growth.forest.nodes.items ≡ Fail ∷ []) }
         ensures marks { IfOk result (λ w. HasMarks w.marks symbols) }
@@ -108,11 +108,11 @@ impl Work {
     }
 }
 
-/// The most nodes that a symbol's tree may have.
+/// The largest number of nodes of a symbol's tree.
 const MOST_NODES: usize = 65_536;
 
-/// What trees grow from: a specification, its symbols in a bank, its left sides, and the rules of
-/// each symbol.
+/// The inputs of tree building: a specification, its symbols in a store, its left-hand sides, and
+/// the rule chain of each symbol.
 #[derive(Clone, Copy)]
 pub(crate) struct Grower<'a> {
     pub(crate) alloc: Global,
@@ -123,7 +123,8 @@ pub(crate) struct Grower<'a> {
 }
 
 impl Grower<'_> {
-    /// A node for the symbol of each share, in a window of the symbols' numbers in the bank.
+    /// Adds a pending node for the symbol of each share, and returns the window of children by the
+    /// symbols' numbers in the store.
     fn add_children(
         &self,
         mut shares: Vec<Share>,
@@ -160,8 +161,8 @@ impl Grower<'_> {
         Ok(children)
     }
 
-    /// A switch at a node that waits, over so many registers; what is left for the symbols that are
-    /// marked waits behind it, and so does what is left for each other tree.
+    /// Writes a pending node as a switch. The rows that remain for each marked symbol, and those
+    /// that remain for every other term, become pending nodes.
     fn branch(
         &self,
         rows: &[CodeRow],
@@ -196,9 +197,9 @@ impl Grower<'_> {
         Ok(())
     }
 
-    /// A switch at a node that waits, on the register of the first code that asks for a symbol.
-    /// Nothing changes where there is none, where the switch would cost more than half of what is
-    /// left, or where there would be too many nodes.
+    /// Writes a pending node as a switch on the register of the first symbol test. Nothing changes
+    /// if there is no such test, if the switch would cost more than half of the fuel, or if there
+    /// would be too many nodes.
     fn switch(
         &self,
         rows: &[CodeRow],
@@ -241,7 +242,8 @@ impl Grower<'_> {
         Ok(true)
     }
 
-    /// A step at a node that waits: it is written, and the nodes behind it wait.
+    /// Writes a pending node, and makes its children pending. Returns false if it would cost too
+    /// much.
     fn step(
         &self,
         mut rows: Vec<CodeRow>,
@@ -271,8 +273,8 @@ impl Grower<'_> {
         self.switch(&rows, node, width, work)
     }
 
-    /// Steps until no node waits; it is given up where they would cost more than there is fuel, or
-    /// where there are too many nodes.
+    /// Writes nodes until none is pending. Returns false if that would cost more than the fuel, or
+    /// if there are too many nodes.
     fn grow(&self, work: &mut Work) -> Result<bool, AllocError>
         requires ready { IsReady self.now }
         requires can { CanStep self.now work.old.growth.forest (tasks_of work.old.growth) }
@@ -295,8 +297,8 @@ impl Grower<'_> {
         Ok(true)
     }
 
-    /// A tree that grows from rows: its root, or 0 where it would have too many nodes or would cost
-    /// more than there is fuel; nothing is left of it then.
+    /// Grows the tree of these rows and returns its root. Returns 0 if the tree would have too many
+    /// nodes or cost more than the fuel; no node of it is kept then.
     pub(crate) fn tree(
         &self,
         width: u32,

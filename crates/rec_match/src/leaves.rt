@@ -1,4 +1,6 @@
-//! Where the values of a row stand whose cells are variables.
+//! The positions of the values of a row that has no symbol tests left. Whether a rule is
+//! left-linear is noted in the leaf when the tree is built; of other rules the values are pushed
+//! and compared.
 
 ghost use Rattle.std.specs.Prelude.{◌≡◌, ◌<◌, ◌^◌, ◌++◌, [], length, All, IfOk, IfSome, Some};
 ghost use Rattle.std.specs.Option.{option_map};
@@ -18,7 +20,7 @@ use crate::places::Places;
 use rec_sorts::Meaning;
 use std::alloc::{AllocError, Global};
 
-/// The first place of a number.
+/// Returns the first index of a number.
 fn position(numbers: &[u32], number: u32) -> Option<u32>
     requires { length numbers.now < 2 ^ 32 }
     ensures { result ≡ number_position numbers.now number }
@@ -32,7 +34,7 @@ fn position(numbers: &[u32], number: u32) -> Option<u32>
 }
 
 impl Parts {
-    /// The places of a row's values behind other places, where nothing but values is left to ask.
+    /// Appends the positions of a row's values. Returns false if the row has a symbol test left.
     pub fn place(
         &self,
         alloc: Global,
@@ -63,7 +65,7 @@ impl Parts {
         Ok(true)
     }
 
-    /// The places of a row's values, where nothing but values is left to ask.
+    /// Returns the positions of a row's values, or `None` if the row has a symbol test left.
     pub(crate) fn places_of(
         &self,
         alloc: Global,
@@ -84,8 +86,8 @@ impl Parts {
         }
     }
 
-    /// The places of a row's values, of which none is asked for any more; a variable is found at
-    /// its place among those that are given. None is given before and afterwards.
+    /// Returns the positions of the values of a row without symbol tests. `given` finds the
+    /// position of a variable; it is empty before and after the call.
     pub(crate) fn value_places(
         &self,
         alloc: Global,
@@ -110,7 +112,7 @@ impl Parts {
         Ok(places)
     }
 
-    /// The place of one value more.
+    /// Appends the position of one more value.
     fn place_value(
         &self,
         code: Code,

@@ -1,11 +1,11 @@
-//! Symbols that are marked.
+//! A set of marked symbols that is cheap to clear.
 
 ghost use Rattle.std.specs.Prelude.{◌≡◌, IfOk, length};
 ghost use Rattle.rec_match.specs.Inner.Marking.{AreMarked, IsRank};
 
 use std::alloc::{AllocError, Global};
 
-/// Whether each symbol is marked, which ones are, and the rank of each of these among them.
+/// Whether each symbol is marked, the list of marked symbols, and the rank of each of them in it.
 #[derive(Drop)]
 pub struct Marks {
     pub marked: Vec<bool>,
@@ -14,7 +14,7 @@ pub struct Marks {
 }
 
 impl Marks {
-    /// No mark for any of so many symbols.
+    /// Returns marks for `count` symbols, none of which is marked.
     pub(crate) fn new(alloc: Global, count: u32) -> Result<Marks, AllocError>
         ensures marked { IfOk result AreMarked }
         ensures counted { IfOk result (λ m. length m.marked.items ≡ count) }
@@ -28,8 +28,8 @@ impl Marks {
         })
     }
 
-    /// The rank of a symbol among those that are marked. What stands for other symbols among the
-    /// ranks is left from former marks.
+    /// Returns the rank of a symbol among the marked ones. The ranks of other symbols are left over
+    /// from earlier marks.
     pub(crate) fn rank(&self, symbol: u32) -> Option<u32>
         requires { AreMarked self.now }
         ensures { IsRank self.now.symbols.items symbol result }
@@ -44,7 +44,7 @@ impl Marks {
         Some(rank)
     }
 
-    /// A symbol is marked, if it is one.
+    /// Marks a symbol, if the number is that of one.
     pub(crate) fn mark(&mut self, symbol: u32) -> Result<(), AllocError>
         requires { AreMarked self.old }
         ensures marked { IfOk result (λ u. AreMarked self.new) }
@@ -63,7 +63,7 @@ impl Marks {
         Ok(())
     }
 
-    /// No symbol is marked any more.
+    /// Removes all marks.
     pub(crate) fn clear(&mut self)
         requires { AreMarked self.old }
         ensures marked { AreMarked self.new }

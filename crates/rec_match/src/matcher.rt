@@ -1,4 +1,4 @@
-//! Which rule of a specification matches: the matching trees of its head say it.
+//! The matcher: entries of left-hand sides, and search in the matching trees.
 
 ghost use Rattle.std.specs.Prelude.{◌≡◌, ◌-◌, IfOk, length};
 ghost use Rattle.rx_term.specs.Walks.{AllHeld};
@@ -10,8 +10,8 @@ use rec_sorts::Links;
 use rx_term::{Term, TermBank};
 use std::alloc::AllocError;
 
-/// A rule's left side: its symbol with the number of its arguments, its variables in the order in
-/// which they first occur, and the next rule of the same symbol.
+/// The entry of a rule's left-hand side: its symbol with the number of arguments, its variables in
+/// the order of their first occurrence, and the next rule of the same symbol.
 #[derive(Drop)]
 pub struct LeftSide {
     pub symbol: u32,
@@ -20,8 +20,8 @@ pub struct LeftSide {
     pub next: u32,
 }
 
-/// The left sides of a specification's rules, the first rule of each symbol, the symbols in a bank,
-/// and the matching trees.
+/// Finds matching rules of one specification in one store. It owns a copy of the symbol map, so
+/// that [`Matcher::next`] takes only the store and the term.
 #[derive(Drop)]
 pub struct Matcher {
     pub sides: Vec<LeftSide>,
@@ -31,11 +31,11 @@ pub struct Matcher {
 }
 
 impl Matcher {
-    /// The first rule that matches, from one on and among those of a symbol, which is applied to
-    /// the last of some references, so many. Registers of what was looked at are left on top of
-    /// these, and the values of its variables, in the order in which the variables first occur, are
-    /// there or on top of these. Where there is no such rule, the references are as before. The
-    /// other two stacks are not used.
+    /// Finds the first rule of `symbol`, from rule `at` on, that matches its application to the
+    /// last `count` references of `work`. The registers stay on top of them, so nothing is copied
+    /// before or after the search. The values of the rule's variables, in the order of their first
+    /// occurrence, are in the registers or on top of them. If there is no such rule, `work` is
+    /// unchanged. The other two stacks are not used. The only error is out of memory.
     #[inline(always)]
     pub fn find<B: TermBank>(
         &self,
@@ -57,7 +57,7 @@ impl Matcher {
         self.find_rule(bank, symbol, count, at, work)
     }
 
-    /// The same without the stacks that are not used.
+    /// Finds a rule like `find`, without the stacks that are not used.
     #[inline(always)]
     pub(crate) fn find_rule<B: TermBank>(
         &self,
@@ -78,10 +78,11 @@ impl Matcher {
         self.forest.run(bank, symbol, first, at, work)
     }
 
-    /// A first look for the first rule that matches among all of a symbol, which is applied to the
-    /// last of some references, of which there are `size`: the rule, with the values of its
-    /// variables in registers, or how many of the symbol's trees are known to find none. Then the
-    /// references are as before, and the others are still to be asked.
+    /// Searches the fast path for the first rule of `symbol` that matches its application to the
+    /// last `count` references of `work`, whose length is `size`. Returns the rule, with the values
+    /// of its variables in registers, or the number of the symbol's first trees that find no rule.
+    /// In the second case `work` is unchanged, and [`Matcher::find_others`] has to search the other
+    /// trees.
     #[inline(always)]
     pub fn glance<B: TermBank>(
         &self,
@@ -104,8 +105,8 @@ impl Matcher {
         self.forest.glance(bank, symbol, first, size, work)
     }
 
-    /// The first rule that matches among all of a symbol, where so many of its trees are known to
-    /// find none.
+    /// Finds the first rule of `symbol` that matches, after `glance` has returned that the first
+    /// `passed` trees find none.
     #[inline(always)]
     pub fn find_others<B: TermBank>(
         &self,

@@ -1,4 +1,4 @@
-//! The least rule that matches a term of a bank.
+//! The lowest-numbered rule that matches a term of a store.
 
 ghost use Rattle.std.specs.Prelude.{ℕ, ◌≡◌, ◌<◌, ◌++◌, [], All, length, map};
 ghost use Rattle.std.specs.Prelude.{IfOk, IfErr, IsSome, Some, None};
@@ -23,7 +23,7 @@ struct Call {
     number: u32,
 }
 
-/// The values at places come behind others. Without room these are as before.
+/// Appends the values at these positions to `bind`. If allocation fails, `bind` is unchanged.
 fn read_places(
     places: &[Place],
     work: &[Term],
@@ -43,7 +43,7 @@ fn read_places(
 }
 
 impl Matcher {
-    /// The first rule at or after a number among those of a symbol.
+    /// Returns the first rule of a symbol with a number of at least `from`.
     fn first_rule(&self, symbol: u32, from: u32) -> u32
         requires symbol { symbol < length self.now.heads.items }
         requires later { AreLater self.now }
@@ -56,8 +56,7 @@ impl Matcher {
         at
     }
 
-    /// The values of a rule that was found for so many registers come behind others. Without room
-    /// these are as before.
+    /// Appends the values of a rule that was found. If allocation fails, `bind` is unchanged.
     fn read_values(
         &self,
         values: Values,
@@ -78,8 +77,8 @@ impl Matcher {
         }
     }
 
-    /// The same as `next` for an application without annotations of a symbol that has a number; its
-    /// arguments stand in `work` then.
+    /// Searches like `next` for an application without annotations whose symbol has a number. It
+    /// pushes the arguments on `work`, which is empty before.
     fn next_call<B: TermBank>(
         &self,
         bank: &B,
@@ -111,9 +110,10 @@ impl Matcher {
         Ok(Some(hit.rule))
     }
 
-    /// The least rule, from a number on, whose left side matches a term, and in `bind` its values
-    /// in the order in which its variables first occur in the left side. Rules are numbered from 0
-    /// in textual order. Without an answer `bind` is empty; the only fault is want of memory.
+    /// Returns the lowest-numbered rule, at least `from`, whose left-hand side matches the term
+    /// `u`, and in `bind` the values of its variables in the order of their first occurrence. Rules
+    /// are numbered from 0 in the order of the text. Returns `None`, with `bind` empty, if there is
+    /// no such rule. The only error is out of memory; `bind` is empty then too.
     pub fn next<B: TermBank>(
         &self,
         bank: &B,
@@ -130,7 +130,8 @@ impl Matcher {
         self.next_on(bank, u, from, &mut work, bind)
     }
 
-    /// The same with room that is lent; nothing is said of what stands in it afterwards.
+    /// Returns the lowest-numbered rule like `next`, with a buffer of the caller. The contents of
+    /// `work` after the call are not specified.
     pub fn next_on<B: TermBank>(
         &self,
         bank: &B,

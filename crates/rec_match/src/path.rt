@@ -1,5 +1,10 @@
-//! Trees for one rule, which are straight paths: each of its symbols is asked for at a node of its
-//! own, and all other trees lead to no rule.
+//! Trees for one rule, which are straight paths: each symbol of the rule is tested at a node of its
+//! own, and all other terms lead to no rule.
+//!
+//! Each path begins with the arguments alone, so the registers of a path that failed are cut off
+//! before the next one is tried. A node has one number of registers, so the other branch of a
+//! path's node cannot be the first node of the next rule. A path has two nodes for each symbol and
+//! two at its end, and is built in linear time.
 
 ghost use Rattle.std.specs.Prelude.{◌≡◌, ◌+◌, ◌<◌, ◌^◌, ◌++◌, ◌∷◌, ◌≤◌, []};
 ghost use Rattle.std.specs.Prelude.{IfOk, length, map, reverse, slice_range};
@@ -24,8 +29,8 @@ use crate::places::Places;
 use rec_sorts::Meaning;
 use std::alloc::{AllocError, Global};
 
-/// A path that is written: the node that waits, how many registers there are at it, the rule, what
-/// gives values, and what is left to ask, the first last.
+/// A path that is being written: the pending node, the number of its registers, the rule, the
+/// variables with their registers, and the tests that remain, in reverse order.
 #[derive(Drop)]
 pub(crate) struct Path {
     pub(crate) node: u32,
@@ -35,7 +40,7 @@ pub(crate) struct Path {
     pub(crate) rest: Vec<Code>,
 }
 
-/// Codes behind others, the first one last.
+/// Appends tests in reverse order.
 fn push_reversed(codes: &[Code], rest: &mut Vec<Code>) -> Result<(), AllocError>
     ensures { IfOk result (λ u. rest.new.items ≡ rest.old.items ++ reverse codes.now) }
 {
@@ -48,8 +53,8 @@ fn push_reversed(codes: &[Code], rest: &mut Vec<Code>) -> Result<(), AllocError>
 }
 
 impl Parts {
-    /// A part's arguments, to be asked of the registers from one on, behind others, the first one
-    /// last.
+    /// Appends a test for each argument of a part, on the registers from `base` on, in reverse
+    /// order.
     fn push_asked(
         &self,
         alloc: Global,
@@ -72,8 +77,8 @@ impl Parts {
 }
 
 impl Grower<'_> {
-    /// A symbol that is left to ask is asked for at the node that waits; its arguments are left to
-    /// ask at a node behind it.
+    /// Writes the pending node as a test for `symbol`. The tests of its arguments remain for a node
+    /// after it.
     fn pass(
         &self,
         code: Code,
@@ -117,7 +122,8 @@ impl Grower<'_> {
         Ok(())
     }
 
-    /// What comes first of what is left is asked for; a variable gives a value.
+    /// Handles the first test that remains: writes a node for a symbol, or notes a variable's
+    /// register.
     fn ask(&self, code: Code, path: &mut Path, forest: &mut Forest) -> Result<(), AllocError>
         requires ready { IsReady self.now }
         requires can { CanStep self.now forest.old
@@ -139,7 +145,7 @@ impl Grower<'_> {
         }
     }
 
-    /// All that is left to ask is asked for.
+    /// Handles all tests that remain.
     fn ask_all(&self, path: &mut Path, forest: &mut Forest) -> Result<(), AllocError>
         requires ready { IsReady self.now }
         requires can { CanStep self.now forest.old (path_task path.old ∷ []) }
@@ -155,7 +161,7 @@ impl Grower<'_> {
         Ok(())
     }
 
-    /// The rule stands at the node that waits, where nothing but values is left to ask.
+    /// Writes the pending node as the leaf of the rule. No symbol test remains.
     fn end(&self, path: &Path, forest: &mut Forest, given: &mut Places) -> Result<(), AllocError>
         requires ready { IsReady self.now }
         requires can { CanStep self.now forest.old (path_task path.now ∷ []) }
@@ -174,7 +180,7 @@ impl Grower<'_> {
         Ok(())
     }
 
-    /// A tree for a row of which nothing was asked so far: its root.
+    /// Builds the tree of one row without earlier tests, and returns its root.
     fn path(
         &self,
         width: u32,
@@ -206,7 +212,7 @@ impl Grower<'_> {
         Ok(root)
     }
 
-    /// A tree for each row, of which nothing was asked so far: their roots.
+    /// Builds a tree for each row without earlier tests, and returns their roots.
     pub(crate) fn paths(
         &self,
         width: u32,

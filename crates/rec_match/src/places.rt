@@ -1,4 +1,4 @@
-//! The places of variables among those of a rule.
+//! The positions of variables in the list of a rule's variables.
 
 ghost use Rattle.std.specs.Prelude.{◌≡◌, ◌<◌, ◌++◌, ◌∷◌, [], All, IfOk, None};
 ghost use Rattle.std.specs.Prelude.{length, get_or, set};
@@ -6,14 +6,14 @@ ghost use Rattle.rec_match.specs.Placed.{IsPlace, ArePlaces, OnlyPlaced};
 
 use std::alloc::{AllocError, Global};
 
-/// The place of each variable among some of them, where it has one.
+/// The position of each variable that is in a list of variables.
 #[derive(Drop)]
 pub struct Places {
     pub of: Vec<Option<u32>>,
 }
 
 impl Places {
-    /// No variable has a place, of so many.
+    /// Returns an empty table for `count` variables.
     pub fn new(alloc: Global, count: u32) -> Result<Places, AllocError>
         ensures { IfOk result (λ p. ArePlaces [] count p) }
     {
@@ -21,7 +21,7 @@ impl Places {
         Ok(Places { of })
     }
 
-    /// The place of a variable.
+    /// Returns the position of a variable.
     pub fn place(&self, variable: u32) -> Option<u32>
         requires { variable < length self.now.of.items }
         ensures { (vs : _) → ArePlaces vs (length self.now.of.items) self.now
@@ -30,7 +30,7 @@ impl Places {
         self.of[variable as usize]
     }
 
-    /// A variable that has no place comes behind the others.
+    /// Appends a variable that has no position yet; `place` is the length of the list.
     pub fn give(&mut self, variable: u32, place: u32)
         requires { variable < length self.old.of.items }
         ensures { (vs : _) → ArePlaces vs (length self.old.of.items) self.old
@@ -40,7 +40,7 @@ impl Places {
         self.of[variable as usize] = Some(place);
     }
 
-    /// The place of a variable, which has none any more.
+    /// Removes and returns the position of a variable.
     pub fn take(&mut self, variable: u32) -> Option<u32>
         requires { variable < length self.old.of.items }
         ensures place { result ≡ get_or self.old.of.items variable None }
@@ -51,7 +51,7 @@ impl Places {
         place
     }
 
-    /// None of the variables has a place any more.
+    /// Removes the positions of these variables, which are all that there are.
     pub fn clear(&mut self, variables: &[u32])
         requires within { All (λ v. v < length self.old.of.items) variables.now }
         requires places { OnlyPlaced variables.now (length self.old.of.items) self.old.of.items }

@@ -1,4 +1,4 @@
-//! The parts of left sides from their letters.
+//! Construction of the parts of left-hand sides from postfix items.
 
 ghost use Rattle.std.specs.Prelude.{◌≡◌, IfOk, length};
 ghost use Rattle.rec_match.specs.Pushed.{CanPush, Pushed, counts_of, AreLeftParts};
@@ -8,8 +8,8 @@ use rec_sorts::{Checked, Letter};
 use std::alloc::{AllocError, Global};
 
 impl Parts {
-    /// Letters one after the other: the part of each takes the place of its arguments' parts on
-    /// top of the stack.
+    /// Adds the parts of these items one after the other. The number of each part replaces those of
+    /// its arguments on top of the stack.
     pub fn push_letters(
         &mut self,
         letters: &[Letter],
@@ -31,14 +31,14 @@ impl Parts {
     }
 }
 
-/// The parts of all left sides, and which part is which rule's left side.
+/// The parts of all left-hand sides, and the number of the part of each rule's left-hand side.
 #[derive(Drop)]
 pub struct LeftParts {
     pub parts: Parts,
     pub numbers: Vec<u32>,
 }
 
-/// The parts of the left sides of a specification's rules.
+/// Returns the parts of the left-hand sides of a specification's rules.
 pub fn left_parts(alloc: Global, checked: &Checked) -> Result<LeftParts, AllocError>
     ensures { IfOk result (λ l.
         AreLeftParts checked.now.spec l.parts l.numbers.items (length checked.now.spec.rules)) }

@@ -1,5 +1,5 @@
-//! What a walk of a matching tree puts on top of the references: the arguments of what is opened,
-//! and the values of a rule of which two have to be the same.
+//! Pushes of a tree walk: the arguments of an application, and the values of a rule that is not
+//! left-linear. Room for all of them is requested once.
 
 ghost use Rattle.std.specs.Prelude.{◌≤◌, length, drop, IfOk};
 ghost use Rattle.rec_match.specs.Forests.{ArePlaces, Extends, Fills, IsListOf, PushesArguments};
@@ -8,8 +8,9 @@ use crate::forest::Place;
 use rx_term::{Term, TermBank};
 use std::alloc::AllocError;
 
-/// The values at places, where those that have to be the same are, go on top of some references, of
-/// which those from one on are the registers. Otherwise the references are as before.
+/// Pushes the values at these positions, if those that have to be equal are equal. The registers
+/// are the references from index `first` on. Returns false, with the stack unchanged, if two values
+/// differ.
 pub fn fill(places: &[Place], first: usize, work: &mut Vec<Term>) -> Result<bool, AllocError>
     requires within { first ≤ length work.old.items }
     requires places { ArePlaces (length (drop first work.old.items)) 0 places.now }
@@ -36,7 +37,7 @@ pub fn fill(places: &[Place], first: usize, work: &mut Vec<Term>) -> Result<bool
     Ok(true)
 }
 
-/// The argument of an application of one, in a register of its own.
+/// Pushes the argument of an application with one argument.
 #[inline(always)]
 fn push_one<B: TermBank>(
     bank: &B,
@@ -54,7 +55,7 @@ fn push_one<B: TermBank>(
     Ok(())
 }
 
-/// The arguments of an application of two.
+/// Pushes the arguments of an application with two arguments.
 #[inline(always)]
 fn push_two<B: TermBank>(
     bank: &B,
@@ -75,7 +76,7 @@ fn push_two<B: TermBank>(
     Ok(())
 }
 
-/// The arguments of an application of any number.
+/// Pushes the arguments of an application with any number of arguments.
 #[inline(always)]
 fn push_each<B: TermBank>(
     bank: &B,
@@ -99,8 +100,8 @@ fn push_each<B: TermBank>(
     Ok(())
 }
 
-/// The arguments of an application, of which there are so many, in registers of their own. One or
-/// two need no loop.
+/// Pushes the `count` arguments of an application as new registers. One or two arguments need no
+/// loop.
 #[inline(always)]
 pub fn push_arguments<B: TermBank>(
     bank: &B,

@@ -1,4 +1,4 @@
-//! The rows that a symbol's tree grows from.
+//! The rows from which a symbol's tree grows.
 
 ghost use Rattle.std.specs.Prelude.{◌≡◌, ◌<◌, IfOk, length, map};
 ghost use Rattle.rec_sorts.specs.Lookup.{symbols};
@@ -17,7 +17,7 @@ use rec_sorts::Checked;
 use std::alloc::{AllocError, Global};
 
 impl Parts {
-    /// A part's arguments, which are to be asked of the registers from 0 on.
+    /// Returns a test for each argument of a part, on the registers from 0 on.
     fn codes_of(&self, alloc: Global, part: u32) -> Result<Vec<Code>, AllocError>
         requires there { part < length self.now.parts.items }
         requires whole { IsWhole self.now }
@@ -32,7 +32,7 @@ impl Parts {
 }
 
 impl LeftParts {
-    /// The rows of a symbol's rules, of which nothing was asked so far.
+    /// Returns the rows of a symbol's rules before any test.
     pub(crate) fn rows(
         &self,
         alloc: Global,

@@ -1,4 +1,4 @@
-//! Rows dealt to the symbols that they ask for.
+//! Distribution of rows to the symbols that they test for.
 
 ghost use Rattle.std.specs.Prelude.{◌≡◌, ◌≢◌, ◌+◌, ◌<◌, ◌^◌, [], All, IfOk, IfSome, None, length};
 ghost use Rattle.std.specs.Prelude.{map};
@@ -11,14 +11,14 @@ use crate::parts::{Code, CodeRow, Parts};
 use rec_sorts::Meaning;
 use std::alloc::{AllocError, Global};
 
-/// A symbol, and the rows that are left where a register is known to be an application of it.
+/// A symbol, and the rows that remain if the register holds an application of it.
 #[derive(Drop)]
 pub(crate) struct Share {
     pub(crate) symbol: u32,
     pub(crate) rows: Vec<CodeRow>,
 }
 
-/// A register that is known to be an application of a symbol, and the first one of those for its
+/// A register that holds an application of a symbol, and the first of the registers for its
 /// arguments.
 #[derive(Clone, Copy)]
 pub(crate) struct Opening {
@@ -26,7 +26,7 @@ pub(crate) struct Opening {
     pub(crate) base: u32,
 }
 
-/// A share for each of some symbols, with no row so far.
+/// Returns an empty share for each symbol.
 fn empty_shares(alloc: Global, symbols: &[u32]) -> Result<Vec<Share>, AllocError>
     ensures { IfOk result
         (λ v. (ps : _) (r base : _) → AreShares ps r base symbols.now [] v.items) }
@@ -42,8 +42,8 @@ fn empty_shares(alloc: Global, symbols: &[u32]) -> Result<Vec<Share>, AllocError
 }
 
 impl Parts {
-    /// The first symbol that codes ask a register for; they are refused where it is an application
-    /// of another one.
+    /// Returns the first symbol that these tests expect in a register. They fail for an application
+    /// of any other symbol.
     pub(crate) fn first_symbol(&self, codes: &[Code], register: u32) -> Option<u32>
         requires { All (IsCode self.now) codes.now }
         ensures { IfSome result (λ k. (symbol base : _) → k ≢ symbol
@@ -59,7 +59,7 @@ impl Parts {
         None
     }
 
-    /// What is left of a row for a share's symbol comes behind the share's rows.
+    /// Appends to a share what remains of a row for the share's symbol.
     fn push_opened(
         &self,
         alloc: Global,
@@ -88,7 +88,7 @@ impl Parts {
         Ok(())
     }
 
-    /// A row that asks for no symbol comes into each share.
+    /// Adds a row without a symbol test of this register to each share.
     fn push_to_each(
         &self,
         alloc: Global,
@@ -107,8 +107,8 @@ impl Parts {
         Ok(())
     }
 
-    /// A row comes into the share of the symbol that it asks for, if there is one, and into each
-    /// share where it asks for none.
+    /// Adds a row to the share of the symbol that it tests for, if there is one, or to each share
+    /// if it tests for none.
     fn deal_row(
         &self,
         alloc: Global,
@@ -134,8 +134,8 @@ impl Parts {
         Ok(())
     }
 
-    /// The rows that are left for each symbol that is marked, where a register is known to be an
-    /// application of it.
+    /// Returns, for each marked symbol, the rows that remain if the register holds an application
+    /// of it.
     pub(crate) fn deal(
         &self,
         alloc: Global,

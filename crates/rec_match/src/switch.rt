@@ -1,4 +1,4 @@
-//! What a switch asks for, which symbols get children, where these stand, and what it costs.
+//! Switches: their register, the symbols that get children, the window of children, and the cost.
 
 ghost use Rattle.std.specs.Prelude.{◌≡◌, ◌+◌, ◌<◌, ◌≤◌, All, IfOk, IfSome, length, get_or};
 ghost use Rattle.rec_match.specs.Forests.{no_child, number_at};
@@ -14,7 +14,7 @@ use rec_sorts::{Links, Meaning};
 use std::alloc::{AllocError, Global};
 
 impl Parts {
-    /// The register of the first code that asks for a symbol.
+    /// Returns the register of the first symbol test.
     pub(crate) fn first_register(&self, codes: &[Code]) -> Option<u32>
         requires { All (IsCode self.now) codes.now }
         ensures { (n : _) → All (λ c. c.register < n) codes.now → IfSome result (λ r. r < n) }
@@ -27,7 +27,7 @@ impl Parts {
         None
     }
 
-    /// Marks the symbols near the first one that a row asks a register for.
+    /// Marks the symbols that a row expects in a register and that are near the first one.
     fn mark_row(
         &self,
         links: &Links,
@@ -52,8 +52,8 @@ impl Parts {
         Ok(())
     }
 
-    /// Marks the symbols that rows ask a register for, of which those are left out that are too
-    /// far from the first one.
+    /// Marks the symbols that the rows expect in a register, except those that are too far from the
+    /// first one.
     pub(crate) fn mark_rows(
         &self,
         links: &Links,
@@ -73,8 +73,8 @@ impl Parts {
         Ok(())
     }
 
-    /// What a switch costs: a row comes into the share of the symbol that it asks for, and one that
-    /// asks for none is copied for each symbol.
+    /// Returns the cost of a switch: a row is moved to the share of the symbol that it tests for; a
+    /// row without such a test is copied for each symbol.
     fn switch_cost(&self, rows: &[CodeRow], register: u32, symbols: u64) -> u64
         requires { All (λ row. All (IsCode self.now) row.codes.items) rows.now }
     {
@@ -92,7 +92,8 @@ impl Parts {
         cost
     }
 
-    /// Takes what a switch costs from the fuel, where that is no more than half of it.
+    /// Subtracts the cost of a switch from the fuel. Returns false if it is more than half of the
+    /// fuel.
     pub(crate) fn pay_switch(
         &self,
         rows: &[CodeRow],
@@ -112,7 +113,7 @@ impl Parts {
     }
 }
 
-/// Whether a symbol's number in the bank is near that of the first one of some.
+/// Returns whether a symbol's number in the store is near that of the first of these symbols.
 fn is_near(links: &Links, symbols: &[u32], symbol: u32, most: u64) -> bool {
     let Some(first) = symbols.first() else {
         return true;
@@ -124,10 +125,10 @@ fn is_near(links: &Links, symbols: &[u32], symbol: u32, most: u64) -> bool {
     a.0.abs_diff(b.0) < most
 }
 
-/// How many pairs of a row's codes are compared at the cost of copying a row.
+/// The number of pairs of tests that are compared at the cost of copying one row.
 const COMPARED_FOR_ONE: u64 = 64;
 
-/// What a look at the first row costs: the other rows are moved, and each of its variables is
+/// Returns the cost of a leaf for the first row: the other rows are moved, and each variable is
 /// compared with those before it.
 pub(crate) fn look_cost(rows: &[CodeRow]) -> u64 {
     let codes = match rows.first() {
@@ -137,14 +138,14 @@ pub(crate) fn look_cost(rows: &[CodeRow]) -> u64 {
     (rows.len() as u64).saturating_add(codes.saturating_mul(codes) / COMPARED_FOR_ONE)
 }
 
-/// A window of symbols' numbers in a bank: the least one, and how many there are.
+/// A window of symbol numbers of a store: the smallest one, and the length.
 #[derive(Clone, Copy)]
 pub(crate) struct Window {
     pub(crate) low: u64,
     pub(crate) span: u32,
 }
 
-/// The least and the greatest number of some symbols in the bank.
+/// Returns the smallest and the largest store number of these symbols.
 fn bounds(links: &Links, symbols: &[u32]) -> (u64, u64)
     requires { All (λ k. k < length links.now) symbols.now }
     ensures least { All (λ k. result.0 ≤ number_at (numbers_of links.now) k) symbols.now }
@@ -160,7 +161,7 @@ fn bounds(links: &Links, symbols: &[u32]) -> (u64, u64)
     (low, high)
 }
 
-/// How many numbers there are from the least to the greatest one.
+/// Returns the number of numbers from `low` to `high`.
 fn span(low: u64, high: u64) -> Option<u32>
     ensures { IfSome result (λ n. low ≤ high → high < low + n) }
 {
@@ -174,7 +175,7 @@ fn span(low: u64, high: u64) -> Option<u32>
     Some(numbers as u32 + 1)
 }
 
-/// The window of some symbols' numbers in the bank; none where it would be too long.
+/// Returns the window of these symbols' store numbers, or `None` if it would be too long.
 pub(crate) fn window_of(links: &Links, symbols: &[u32]) -> Option<Window>
     requires { All (λ k. k < length links.now) symbols.now }
     ensures { IfSome result
@@ -185,7 +186,7 @@ pub(crate) fn window_of(links: &Links, symbols: &[u32]) -> Option<Window>
     Some(Window { low, span })
 }
 
-/// No child for so many symbols.
+/// Returns a window without children.
 pub(crate) fn no_children(alloc: Global, span: u32) -> Result<Vec<Child>, AllocError>
     ensures long { IfOk result (λ w. length w.items ≡ span) }
     ensures none { IfOk result (λ w. (q : _) → (get_or w.items q no_child).node ≡ 0) }

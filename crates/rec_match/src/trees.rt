@@ -1,4 +1,4 @@
-//! The matching trees of a specification's symbols.
+//! Construction of the matching trees of all symbols.
 
 ghost use Rattle.std.specs.Prelude.{◌≡◌, ◌<◌, ◌∷◌, [], IfOk, length};
 ghost use Rattle.rec_sorts.specs.Lookup.{symbols};
@@ -17,14 +17,14 @@ use crate::push::{LeftParts, left_parts};
 use rec_sorts::{Checked, Links};
 use std::alloc::{AllocError, Global};
 
-/// How much may be done to build the trees of left sides with so many parts: a few times what the
-/// trees of rules that hardly overlap need.
+/// Returns the limit on the work of building trees, for this number of parts of left-hand sides. It
+/// is a few times what trees of rules need that hardly overlap.
 fn fuel(parts: usize) -> u64 {
     (parts as u64).saturating_mul(16).saturating_add(1 << 22)
 }
 
 impl Forest {
-    /// No trees: one node, to which nothing leads.
+    /// Returns a forest without trees: one node, to which nothing leads.
     pub(crate) fn new(alloc: Global) -> Result<Forest, AllocError>
         ensures nodes { IfOk result (λ f. f.nodes.items ≡ Fail ∷ []) }
     {
@@ -40,8 +40,8 @@ impl Forest {
 }
 
 impl Grower<'_> {
-    /// The trees of a symbol's rules: one for all of them, or, where that would be too large, one
-    /// for each rule. Their roots, in the order of the rules.
+    /// Builds the trees of a symbol's rules and returns their roots: one tree for all rules, or one
+    /// for each rule if that tree would be too large. The roots are in the order of the rules.
     fn trees_of(&self, symbol: u32, work: &mut Work) -> Result<Vec<u32>, AllocError>
         requires symbol { symbol < length (symbols self.now.checked.now.spec) }
         requires ready { IsReady self.now }
@@ -68,7 +68,7 @@ impl Grower<'_> {
         Ok(roots)
     }
 
-    /// The trees of all symbols grow, one after the other, in a forest without trees.
+    /// Builds the trees of all symbols, one after the other, in an empty forest.
     fn grow_trees(&self, work: &mut Work) -> Result<(), AllocError>
         requires ready { IsReady self.now }
         requires nodes { work.old.growth.forest.nodes.items ≡ Fail ∷ [] }
@@ -86,7 +86,7 @@ impl Grower<'_> {
     }
 }
 
-/// The matching trees of all symbols, which grow from the parts of left sides.
+/// Builds the matching trees of all symbols from the parts of the left-hand sides.
 fn grow_all(
     checked: &Checked,
     links: &Links,
@@ -117,7 +117,7 @@ fn grow_all(
     Ok(forest)
 }
 
-/// The matching trees of a specification's symbols, whose rules stand in chains.
+/// Builds the matching trees of a specification's symbols from their rule chains.
 pub(crate) fn trees(
     alloc: Global,
     checked: &Checked,

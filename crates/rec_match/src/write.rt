@@ -1,4 +1,4 @@
-//! Nodes of matching trees are written.
+//! Writing of nodes of matching trees.
 
 ghost use Rattle.std.specs.Prelude.{◌≡◌, ◌<◌, ◌^◌, All, IfOk, length, true};
 ghost use Rattle.rec_match.specs.Forests.{IsNew};
@@ -7,7 +7,7 @@ ghost use Rattle.rec_match.specs.Inner.Tasks.{AddsNode, WritesTry, WritesSwitch}
 use crate::forest::{Child, Forest, Node, Place};
 use std::alloc::AllocError;
 
-/// Whether a value is new.
+/// Returns whether a value is new, so that it need not equal an earlier one.
 fn is_new(place: Place) -> bool
     ensures { result ≡ true → IsNew place }
 {
@@ -20,7 +20,7 @@ fn is_new(place: Place) -> bool
     }
 }
 
-/// Whether each value is new.
+/// Returns whether each value is new.
 fn are_new(places: &[Place]) -> bool
     ensures { result ≡ true → All IsNew places.now }
 {
@@ -33,7 +33,7 @@ fn are_new(places: &[Place]) -> bool
 }
 
 impl Forest {
-    /// One node more, at which no rule is left so far.
+    /// Adds a node at which no rule remains so far.
     pub(crate) fn add_node(&mut self) -> Result<u32, AllocError>
         ensures adds { IfOk result (λ node. AddsNode self.old self.new node) }
         ensures few { IfOk result (λ node. length self.old.nodes.items < 2 ^ 32) }
@@ -45,7 +45,7 @@ impl Forest {
         Ok(node)
     }
 
-    /// A rule at a node, with the places of its values and the node that comes next.
+    /// Writes a node that tries a rule, with the positions of its values and the next node.
     pub(crate) fn write_try(
         &mut self,
         node: u32,
@@ -73,7 +73,7 @@ impl Forest {
         Ok(())
     }
 
-    /// A switch at a node, with a window of children and the node for each other tree.
+    /// Writes a switch, with a window of children and the node for every other term.
     pub(crate) fn write_switch(
         &mut self,
         node: u32,

@@ -47,7 +47,7 @@ free-answers count i k s many free at =
     ap (λ b. if b then Some (pair_of s.first) else if eqb k s.second.key.0 then Some (pair_of s.second) else None) first
     ∙ ap (λ b. if b then Some (pair_of s.second) else None) second
 
--- one turn within a block of which nothing was left so far, where nothing of the next set is
+-- one turn within a block of which nothing was left so far, if nothing of the next set is
 pub free-turn : (sets : List Set) (count k i : ℕ) (s : Set) → 1 < count → i < length sets → is_free i s ≡ true
     → (place_of count k < i → look_up sets count k ≡ None) → place_of count k < i + 1 → look_up (slice_set sets i s) count k ≡ None
 free-turn sets count k i s many lt free none within = elim (eqb_tells (place_of count k) i) [
@@ -58,7 +58,7 @@ free-turn sets count k i s many lt free none within = elim (eqb_tells (place_of 
 same-some : {X : Type 0} (a b : X) → Some a ≡ Some b → a ≡ b
 same-some a b e = cc
 
--- a block's flag is taken back where nothing of it answers
+-- a block's flag is taken back if nothing of it answers
 pub idle-after : (sets : List Set) (used : List Bool) (count k block : ℕ) (left : Bool) → block < length used
     → (left ≡ false → block_of (place_of count k) ≡ block → look_up sets count k ≡ None)
     → (slice_get used (block_of (place_of count k)) ≡ Some false → look_up sets count k ≡ None)

@@ -17,7 +17,7 @@ place-halves count k =
     let twice : spread_of k * (2 * count) ≡ 2 * (spread_of k * count) = grind (arith) in
     omega (arith, twice)
 
--- where each entry of a key passes, the key is answered as before
+-- if each entry of a key passes, the key is answered as before
 kept-all : (keep : Entry → Bool) (s : Set) (blank : Entry) (k : ℕ) → eqb k blank.key.0 ≡ false → ((e : Entry) → k ≡ e.key.0 → keep e ≡ true)
     → answer_of (kept_by keep blank s) k ≡ answer_of s k
 kept-all keep s blank k h all =
@@ -89,7 +89,7 @@ at-push xs s count k e = ap (λ j. answer_in (slice_get (xs ++ s ∷ []) j) k) e
 before-push : (xs : List Set) (s : Set) (count k : ℕ) → place_of count k < length xs → look_up (xs ++ s ∷ []) count k ≡ look_up xs count k
 before-push xs s count k lt = ap (λ o. answer_in o k) (push-old xs (place_of count k) s lt)
 
--- one turn: the two shares of the set of a number come behind those of the sets before it
+-- one turn: the two shares of the set of a number come after those of the sets before it
 pub double-turn : (old sets : List Set) (was p k : ℕ) (d : Set) → 1 < 2 * was → p < length old → length sets ≡ 2 * p
     → (place_of (2 * was) k < 2 * p → look_up sets (2 * was) k ≡ look_up old was k) → place_of (2 * was) k < 2 * (p + 1)
     → look_up ((sets ++ share_of (2 * was) (2 * p) (get_or old p d) ∷ []) ++ share_of (2 * was) (2 * p + 1) (get_or old p d) ∷ []) (2 * was) k

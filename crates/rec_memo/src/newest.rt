@@ -1,4 +1,5 @@
-//! Which pairs of a memo are new. A hint: whatever it answers is right, so no clause speaks of it.
+//! Which pairs of a memo table are new. Every answer is correct, so no clause speaks about it. The
+//! marks are in a table of their own, one byte for each entry, so that an entry keeps its 16 bytes.
 
 use std::alloc::{AllocError, Global};
 
@@ -15,28 +16,29 @@ const OLD: Mark = Mark {
     second: false,
 };
 
-/// The mark of a set of which that is not known.
+/// The mark of a set that may have new entries.
 const NEW: Mark = Mark {
     first: true,
     second: true,
 };
 
-/// Of each set, which entries were put or used since all of them were last old.
+/// For each set, the entries that were put or used since all of them were last made old.
 #[derive(Drop)]
 pub struct Newest {
     marks: Vec<Mark>,
-    /// How many such entries there are at most.
+    /// An upper bound on the number of such entries.
     count: usize,
 }
 
 impl Newest {
-    /// None is new, of so many sets.
+    /// Returns marks for this number of sets, with no new entry.
     pub(crate) fn new(alloc: Global, sets: usize) -> Result<Newest, AllocError> {
         let marks = vec![in alloc; OLD; sets]?;
         Ok(Newest { marks, count: 0 })
     }
 
-    /// Of so many sets each entry may be new, where there is memory: whether there is.
+    /// Makes marks for this number of sets, in which each entry may be new. Returns whether the
+    /// allocation succeeded.
     pub(crate) fn widen(&mut self, sets: usize) -> bool {
         match vec![in *self.marks.allocator(); NEW; sets] {
             Ok(marks) => {
@@ -47,8 +49,8 @@ impl Newest {
         }
     }
 
-    /// A new entry comes to the first place of a set. The one that was there goes to the second,
-    /// but for one of the same key.
+    /// Marks a new first entry of a set. The entry that was first becomes the second, unless it has
+    /// the same key.
     #[inline]
     pub(crate) fn lead(&mut self, place: usize, same_key: bool) {
         if place < self.marks.len() {
@@ -65,7 +67,7 @@ impl Newest {
         }
     }
 
-    /// An entry of a set is used, the first or the second.
+    /// Marks the first or second entry of a set as used.
     #[inline]
     pub(crate) fn touch(&mut self, place: usize, is_first: bool) {
         if place < self.marks.len() {
@@ -80,12 +82,12 @@ impl Newest {
         }
     }
 
-    /// How many entries are new at most.
+    /// Returns an upper bound on the number of new entries.
     pub(crate) fn count(&self) -> usize {
         self.count
     }
 
-    /// Which entries of a set are new.
+    /// Returns which entries of a set are new.
     pub(crate) fn mark(&self, place: usize) -> Mark {
         if place < self.marks.len() {
             self.marks[place]
@@ -94,7 +96,7 @@ impl Newest {
         }
     }
 
-    /// All are old.
+    /// Makes all entries old.
     pub(crate) fn clear(&mut self) {
         if self.count > 0 {
             for place in 0..self.marks.len() {

@@ -1,189 +1,160 @@
--- What holds of an end holds of it as it is told where nothing was said of how many calls may wait.
-use Rattle.std.proofs.Common.{◌≡◌, ◌≢◌, ◌∙◌, ℕ, List, Option, Some, None, Result, Ok, Err, IfErr, IfOk, OnOk, refl, ap, sym, subst}
+-- When a line and a run are too deep.
+use Rattle.std.proofs.Common.{◌≡◌, ◌≢◌, ◌∙◌, ◌<◌, ◌≤◌, ◌+◌, ℕ, zero, suc, List, Option, Some, None, Result, Ok, Err, IfErr, Bool, false, ap, arith, sym, subst, refl}
+use Rattle.std.specs.Prelude.{◌||◌}
 use Rattle.rx_term.specs.Store.{Store}
 use Rattle.rx_term.specs.declared.Term.{Term}
 use Rattle.rec_memo.specs.Pairs.{Pairs}
 use Rattle.rec_engine.specs.Cells.{RoomOnly}
-use Rattle.rec_engine.specs.Depth.{DeepOnly, RoomOnlyWithin}
-use Rattle.rec_engine.specs.declared.cells.EngineFault.{EngineFault}
-use Rattle.rec_engine.specs.declared.cells.EngineFault.TheVariants as unlimited
-use Rattle.rec_engine.specs.declared.depth.DepthFault.{DepthFault}
+use Rattle.rec_engine.specs.Engine.{EngineState}
+use Rattle.rec_engine.specs.Limits.{KeepsLimit, RoomOrDeepOnly}
+use Rattle.rec_engine.specs.declared.engine.errors.EngineFault.{EngineFault}
+use Rattle.rec_engine.specs.declared.engine.errors.EngineFault.TheVariants as engine
 use Rattle.rec_engine.specs.declared.engine.Outcome.{Outcome}
-use Rattle.rec_engine.specs.declared.depth.DepthFault.TheVariants as engine
+use Rattle.rx_text.specs.Output.{IsSameOutput}
+use Rattle.rx_text.specs.declared.output.Output.{Output}
+use Rattle.rx_run.specs.Run.{IsNotDeep}
+use Rattle.rx_run.specs.Streams.{is_read, is_write}
 use Rattle.rx_run.specs.declared.ending.RunFault.{RunFault}
 use Rattle.rx_run.specs.declared.ending.RunFault.TheVariants as run
-use Rattle.rec_run.specs.Depth.{DeepOnlyFor, HasRoomWithin, IsBounded, IsFull, LineDeepOnly, RunDeepOnly, after_lines, of_depth}
-use Rattle.rec_run.specs.Depth.{of_engine, of_line, unbounded, unbounded_fault, unbounded_line, unbounded_line_fault}
-use Rattle.rec_run.specs.EvaluatedLines.{LineLacks, fault_after}
+use Rattle.rec_run.specs.Depth.{IsBounded, KeepsDepth, RunDeepOnly}
+use Rattle.rec_run.specs.EvaluatedLines.{RunLacks, fault_after, of_engine}
 use Rattle.rec_run.specs.Run.{HasRoom}
-use Rattle.rec_run.specs.declared.depth.LineDepthFault.{LineDepthFault}
-use Rattle.rec_run.specs.declared.depth.LineDepthFault.TheVariants as line
-use Rattle.rec_run.specs.declared.depth.RunDepthFault.{RunDepthFault}
-use Rattle.rec_run.specs.declared.depth.RunDepthFault.TheVariants.{Run, Deep}
-use Rattle.rec_run.specs.declared.spec.lines.LineFault.{LineFault}
-use Rattle.rec_run.specs.declared.spec.lines.LineFault.TheVariants.{Memory, Room, Write}
-
--- ---- an engine's answer
-
-module _ {A : Type 0} where
-  pub engine-ok : (P : A → Type 0) (x : Result A EngineFault) (r : Result A DepthFault) → r ≡ of_engine x → IfOk x P → IfOk r P
-  engine-ok P x r e h = subst (λ z. IfOk z P) (sym e) (by x h)
-    where
-      by : (x : Result A EngineFault) → IfOk x P → IfOk (of_engine x) P
-      by (Ok a) h = h
-      by (Err unlimited.Memory) h = tt
-      by (Err unlimited.Room) h = tt
-
-  pub engine-room : (w : Store) (work : List Term) (m : Pairs) (x : Result A EngineFault) (r : Result A DepthFault) → r ≡ of_engine x
-      → RoomOnly w work m x → RoomOnlyWithin w work m r
-  engine-room w work m x r e h = subst (RoomOnlyWithin w work m) (sym e) (by x h)
-    where
-      by : (x : Result A EngineFault) → RoomOnly w work m x → RoomOnlyWithin w work m (of_engine x)
-      by (Ok a) h = tt
-      by (Err unlimited.Memory) h = tt
-      by (Err unlimited.Room) h = h
-
-  pub engine-deep : (waiting : ℕ) (depth : Option ℕ) (x : Result A EngineFault) (r : Result A DepthFault) → r ≡ of_engine x → DeepOnlyFor waiting depth r
-  engine-deep waiting depth x r e = subst (DeepOnlyFor waiting depth) (sym e) (by x)
-    where
-      by : (x : Result A EngineFault) → DeepOnlyFor waiting depth (of_engine x)
-      by (Ok a) = tt
-      by (Err unlimited.Memory) = tt
-      by (Err unlimited.Room) = tt
-
-  pub deep_for : (waiting d : ℕ) (depth : Option ℕ) (r : Result A DepthFault) → depth ≡ Some d → DeepOnly waiting d r → DeepOnlyFor waiting depth r
-  deep_for waiting d depth (Ok a) e h = tt
-  deep_for waiting d depth (Err engine.Memory) e h = tt
-  deep_for waiting d depth (Err engine.Room) e h = tt
-  deep_for waiting d depth (Err engine.Deep) e h = subst (IsFull waiting) (sym e) h
 
 -- ---- a line
 
--- what came of it, told again, is what came of it
-pub line-told : {A : Type 0} (x : Result A LineFault) (r : Result A LineDepthFault) → r ≡ of_line x → unbounded_line r ≡ x
-line-told x r e = ap unbounded_line e ∙ by x
-  where
-    by : {A : Type 0} (x : Result A LineFault) → unbounded_line (of_line x) ≡ x
-    by (Ok a) = refl
-    by (Err f) = refl
-
-pub line-ok : {A : Type 0} (P : Type 0) (x : Result A LineFault) (r : Result A LineDepthFault) → r ≡ of_line x → OnOk x P → OnOk r P
-line-ok P x r e h = subst (λ z. OnOk z P) (sym e) (by P x h)
-  where
-    by : {A : Type 0} (P : Type 0) (x : Result A LineFault) → OnOk x P → OnOk (of_line x) P
-    by P (Ok a) h = h
-    by P (Err f) h = tt
-
-pub line-deep : {A : Type 0} (waiting : ℕ) (depth : Option ℕ) (x : Result A LineFault) (r : Result A LineDepthFault) → r ≡ of_line x
-    → LineDeepOnly waiting depth r
-line-deep waiting depth x r e = subst (LineDeepOnly waiting depth) (sym e) (by waiting depth x)
-  where
-    by : {A : Type 0} (waiting : ℕ) (depth : Option ℕ) (x : Result A LineFault) → LineDeepOnly waiting depth (of_line x)
-    by waiting depth (Ok a) = tt
-    by waiting depth (Err f) = tt
-
--- what holds of a line holds of it as it is told
-pub told_on_line : {A : Type 0} (P : Type 0) (x : Result A LineDepthFault) (r : Result A LineFault) → r ≡ unbounded_line x → OnOk x P → OnOk r P
-told_on_line P (Ok a) (Ok b) e h = h
-told_on_line P (Ok a) (Err f) e h = tt
-told_on_line P (Err g) (Ok b) e h = absurd (cc e)
-told_on_line P (Err g) (Err f) e h = tt
-
--- a line that is not out of cells lacks none
-pub line-room : {A : Type 0} (w : Store) (work : List Term) (m : Pairs) (x : Result A LineFault) → Err Room ≢ x → IfErr x (LineLacks w work m)
+-- a line that is neither out of cells nor too deep
+pub line-room : {A : Type 0} (w : Store) (work : List Term) (m : Pairs) (x : Result A RunFault) → IfErr x HasRoom → IfErr x (RunLacks w work m)
 line-room w work m (Ok a) h = tt
-line-room w work m (Err Memory) h = tt
-line-room w work m (Err Room) h = absurd (h refl)
-line-room w work m (Err Write) h = tt
+line-room w work m (Err (run.Memory lines)) h = tt
+line-room w work m (Err (run.Room lines)) h = absurd h
+line-room w work m (Err (run.Deep lines)) h = tt
+line-room w work m (Err run.Read) h = tt
+line-room w work m (Err run.Write) h = tt
+
+pub line-deep : {A : Type 0} (waiting : ℕ) (depth : Option ℕ) (x : Result A RunFault) → IfErr x HasRoom → RunDeepOnly waiting depth x
+line-deep waiting depth (Ok a) h = tt
+line-deep waiting depth (Err (run.Memory lines)) h = tt
+line-deep waiting depth (Err (run.Room lines)) h = tt
+line-deep waiting depth (Err (run.Deep lines)) h = absurd h
+line-deep waiting depth (Err run.Read) h = tt
+line-deep waiting depth (Err run.Write) h = tt
 
 -- the engine gave up
-module _ (f : DepthFault) (r : LineDepthFault) (e : r ≡ of_depth f) where
-  pub gave_up-room : (w : Store) (work : List Term) (m : Pairs) → RoomOnlyWithin {A = Outcome} w work m (Err f) → LineLacks w work m (unbounded_line_fault r)
-  gave_up-room w work m h = subst (λ z. LineLacks w work m (unbounded_line_fault z)) (sym e) (by f h)
+module _ (f : EngineFault) (lines : ℕ) (r : RunFault) (e : r ≡ of_engine f lines) where
+  pub gave_up-room : (w : Store) (work : List Term) (m : Pairs) (depth : Option ℕ) (waiting : ℕ)
+      → RoomOrDeepOnly {A = Outcome} w work m depth waiting (Err f) → RunLacks w work m r
+  gave_up-room w work m depth waiting h = subst (RunLacks w work m) (sym e) (by f h)
     where
-      by : (f : DepthFault) → RoomOnlyWithin {A = Outcome} w work m (Err f) → LineLacks w work m (unbounded_line_fault (of_depth f))
+      by : (f : EngineFault) → RoomOrDeepOnly {A = Outcome} w work m depth waiting (Err f) → RunLacks w work m (of_engine f lines)
       by engine.Memory h = tt
       by engine.Room h = h
       by engine.Deep h = tt
 
-  pub gave_up-deep : (waiting : ℕ) (depth : Option ℕ) → DeepOnlyFor {A = Outcome} waiting depth (Err f) → LineDeepOnly {A = Unit {0}} waiting depth (Err r)
-  gave_up-deep waiting depth h = subst (λ z. LineDeepOnly {A = Unit {0}} waiting depth (Err z)) (sym e) (by f h)
+  pub gave_up-deep : (w : Store) (work : List Term) (m : Pairs) (depth : Option ℕ) (waiting : ℕ)
+      → RoomOrDeepOnly {A = Outcome} w work m depth waiting (Err f) → RunDeepOnly {A = Unit {0}} waiting depth (Err r)
+  gave_up-deep w work m depth waiting h = subst (λ z. RunDeepOnly {A = Unit {0}} waiting depth (Err z)) (sym e) (by f h)
     where
-      by : (f : DepthFault) → DeepOnlyFor {A = Outcome} waiting depth (Err f) → LineDeepOnly {A = Unit {0}} waiting depth (Err (of_depth f))
+      by : (f : EngineFault) → RoomOrDeepOnly {A = Outcome} w work m depth waiting (Err f) → RunDeepOnly {A = Unit {0}} waiting depth (Err (of_engine f lines))
       by engine.Memory h = tt
       by engine.Room h = tt
       by engine.Deep h = h
 
--- and never by the writer's fault
-pub gave_up-no_write : (f : DepthFault) (r : LineDepthFault) → r ≡ of_depth f → unbounded_line_fault r ≢ Write
-gave_up-no_write f r e is = by f (ap unbounded_line_fault (sym e) ∙ is)
+  -- and never too deep without a depth limit
+  pub own-deep : (w : Store) (work : List Term) (m : Pairs) (waiting : ℕ) (depth : Option ℕ) → RoomOnly {A = Term} w work m (Err f)
+      → RunDeepOnly {A = Unit {0}} waiting depth (Err r)
+  own-deep w work m waiting depth h = subst (λ z. RunDeepOnly {A = Unit {0}} waiting depth (Err z)) (sym e) (by f h)
+    where
+      by : (f : EngineFault) → RoomOnly {A = Term} w work m (Err f) → RunDeepOnly {A = Unit {0}} waiting depth (Err (of_engine f lines))
+      by engine.Memory h = tt
+      by engine.Room h = tt
+      by engine.Deep h = absurd h
+
+  -- and never by the fault of a stream
+  pub gave_up-reports : {W : Type 0} (out : Output W) → (IsSameOutput out out × (out.refused ≡ (is_write r || out.refused))) × (is_read r ≡ false)
+  gave_up-reports out = ((refl, ap (λ b. b || out.refused) (sym (ap is_write e ∙ (by f).0))), ap is_read e ∙ (by f).1)
+    where
+      by : (f : EngineFault) → (is_write (of_engine f lines) ≡ false) × (is_read (of_engine f lines) ≡ false)
+      by engine.Memory = (refl, refl)
+      by engine.Room = (refl, refl)
+      by engine.Deep = (refl, refl)
+
+-- ---- a run
+
+-- its fault, by a line's
+pub after-deep : (f : RunFault) (lines : ℕ) (r : RunFault) → r ≡ fault_after f lines → (waiting : ℕ) (depth : Option ℕ)
+    → RunDeepOnly {A = Unit {0}} waiting depth (Err f) → RunDeepOnly {A = Unit {0}} waiting depth (Err r)
+after-deep f lines r e waiting depth h = subst (λ z. RunDeepOnly {A = Unit {0}} waiting depth (Err z)) (sym e) (by f h)
   where
-    by : (f : DepthFault) → unbounded_line_fault (of_depth f) ≢ Write
-    by engine.Memory is = cc is
-    by engine.Room is = cc is
-    by engine.Deep is = cc is
+    by : (f : RunFault) → RunDeepOnly {A = Unit {0}} waiting depth (Err f) → RunDeepOnly {A = Unit {0}} waiting depth (Err (fault_after f lines))
+    by (run.Memory k) h = tt
+    by (run.Room k) h = tt
+    by (run.Deep k) h = h
+    by run.Read h = tt
+    by run.Write h = tt
 
--- ---- the run's fault where a line's came
+-- after one at least it was kept
+depth-kept : {B : Type 0} (k : ℕ) (depth : Option ℕ) (a b : EngineState B) → 0 < k → KeepsLimit depth b.bound b.waiting → KeepsDepth k depth a b
+depth-kept zero depth a b some h = absurd (omega (arith, some))
+depth-kept (suc k) depth a b some h = h
 
-module _ (f : LineDepthFault) (lines : ℕ) (r : RunDepthFault) (e : r ≡ after_lines f lines) where
-  pub after-told : unbounded_fault r ≡ fault_after (unbounded_line_fault f) lines
-  after-told = ap unbounded_fault e ∙ by f
-    where
-      by : (f : LineDepthFault) → unbounded_fault (after_lines f lines) ≡ fault_after (unbounded_line_fault f) lines
-      by (line.Line g) = refl
-      by line.Deep = refl
+-- the depth limit of some evaluations, and of others
+pub depth-both : {B : Type 0} (k l : ℕ) (depth : Option ℕ) (a b c : EngineState B) → KeepsDepth k depth a b → KeepsDepth l depth b c
+    → KeepsDepth (k + l) depth a c
+depth-both zero l depth a b c h e = subst (λ m. KeepsDepth m depth a c) (none-before l) (later l e)
+  where
+    none-before : (l : ℕ) → l ≡ 0 + l
+    none-before l = omega arith
 
-  pub after-deep : (waiting : ℕ) (depth : Option ℕ) → LineDeepOnly {A = Unit {0}} waiting depth (Err f) → RunDeepOnly {A = Unit {0}} waiting depth (Err r)
-  after-deep waiting depth h = subst (λ z. RunDeepOnly {A = Unit {0}} waiting depth (Err z)) (sym e) (by f h)
-    where
-      by : (f : LineDepthFault) → LineDeepOnly {A = Unit {0}} waiting depth (Err f) → RunDeepOnly {A = Unit {0}} waiting depth (Err (after_lines f lines))
-      by (line.Line g) h = tt
-      by line.Deep h = h
+    later : (l : ℕ) → KeepsDepth l depth b c → KeepsDepth l depth a c
+    later zero e = (e.0 ∙ h.0, e.1 ∙ h.1)
+    later (suc l) e = e
+depth-both (suc k) l depth a b c h e = depth-kept (suc k + l) depth a c (some k l) (limit l e)
+  where
+    some : (k l : ℕ) → 0 < suc k + l
+    some k l = omega arith
 
--- ---- a run's end
+    limit : (l : ℕ) → KeepsDepth l depth b c → KeepsLimit depth c.bound c.waiting
+    limit zero e = record {
+      bound = e.0 ∙ h.bound;
+      within = subst (λ m. m ≤ c.bound) (sym e.1) (subst (λ m. b.waiting ≤ m) (sym e.0) h.within);
+    }
+    limit (suc l) e = e
 
--- what holds of an error as it is told
-pub told_err : {A : Type 0} (P : RunFault → Type 0) (r : Result A RunDepthFault) → IfErr r (λ f. P (unbounded_fault f)) → IfErr (unbounded r) P
-told_err P (Ok a) h = tt
-told_err P (Err f) h = h
+pub depth-line : {B : Type 0} (k : ℕ) (depth : Option ℕ) (a b : EngineState B) → KeepsLimit depth b.bound b.waiting → KeepsDepth (k + 1) depth a b
+depth-line k depth a b h = subst (λ m. KeepsDepth m depth a b) (one-more k) h
+  where
+    one-more : (k : ℕ) → suc k ≡ k + 1
+    one-more k = omega arith
 
-pub err_told : {A : Type 0} (P : RunFault → Type 0) (r : Result A RunDepthFault) → IfErr (unbounded r) P → IfErr r (λ f. P (unbounded_fault f))
-err_told P (Ok a) h = tt
-err_told P (Err f) h = h
+-- after one at least it was kept
+pub depth-some : {B : Type 0} (k : ℕ) (depth : Option ℕ) (a b : EngineState B) → KeepsDepth k depth a b → 0 < k → KeepsLimit depth b.bound b.waiting
+depth-some zero depth a b h some = absurd (omega (arith, some))
+depth-some (suc k) depth a b h some = h
 
-pub ok_told : {A : Type 0} (P : A → Type 0) (r : Result A RunDepthFault) → IfOk (unbounded r) P → IfOk r P
-ok_told P (Ok a) h = h
-ok_told P (Err f) h = tt
-
--- what holds where there is one
-pub told_on : {A : Type 0} (P : Type 0) (x : Result A RunDepthFault) (r : Result A RunFault) → r ≡ unbounded x → OnOk x P → OnOk r P
-told_on P (Ok a) (Ok b) e h = h
-told_on P (Ok a) (Err f) e h = tt
-told_on P (Err g) (Ok b) e h = absurd (cc e)
-told_on P (Err g) (Err f) e h = tt
-
-pub on_told : {A : Type 0} (P : Type 0) (r : Result A RunDepthFault) → OnOk (unbounded r) P → OnOk r P
-on_told P (Ok a) h = h
-on_told P (Err f) h = tt
-
--- what holds of an error holds of an end that is the same
-pub err_same : {A E : Type 0} (P : E → Type 0) (x r : Result A E) → r ≡ x → IfErr x P → IfErr r P
-err_same P x r e h = subst (λ z. IfErr z P) (sym e) h
-
--- a run that wants no cells, and in which no call waits
-pub room_told : (f : RunDepthFault) → HasRoomWithin f → HasRoom (unbounded_fault f)
-room_told (Run f) h = h
-room_told (Deep lines) h = absurd h
-
-pub bounded_by : {A : Type 0} (waiting : ℕ) (depth : Option ℕ) (r : Result A RunDepthFault) → RunDeepOnly waiting depth r → IfErr r (IsBounded depth)
+pub bounded_by : {A : Type 0} (waiting : ℕ) (depth : Option ℕ) (r : Result A RunFault) → RunDeepOnly waiting depth r → IfErr r (IsBounded depth)
 bounded_by waiting depth (Ok a) h = tt
-bounded_by waiting depth (Err (Run f)) h = tt
-bounded_by waiting depth (Err (Deep lines)) h = by depth h
-  where
-    by : (depth : Option ℕ) → IsFull waiting depth → depth ≢ None
-    by None h = absurd h
-    by (Some d) h = λ e. cc e
+bounded_by waiting depth (Err (run.Memory lines)) h = tt
+bounded_by waiting depth (Err (run.Room lines)) h = tt
+bounded_by waiting depth (Err (run.Deep lines)) h = λ e. cc (h, e)
+bounded_by waiting depth (Err run.Read) h = tt
+bounded_by waiting depth (Err run.Write) h = tt
+
+-- a fault that is never too deep is bounded by any depth
+pub bounded_any : (depth : Option ℕ) (f : RunFault) → IsNotDeep f → IsBounded depth f
+bounded_any depth (run.Memory lines) h = tt
+bounded_any depth (run.Room lines) h = tt
+bounded_any depth (run.Deep lines) h = absurd h
+bounded_any depth run.Read h = tt
+bounded_any depth run.Write h = tt
+
+-- without a depth limit a run is never too deep
+pub unlimited : (f : RunFault) → IsBounded None f → IsNotDeep f
+unlimited (run.Memory lines) h = tt
+unlimited (run.Room lines) h = tt
+unlimited (run.Deep lines) h = absurd (h refl)
+unlimited run.Read h = tt
+unlimited run.Write h = tt
 
 -- the writer's fault is no want of cells, nor is it too deep
-pub write-within : (depth : Option ℕ) (f : RunDepthFault) → f ≡ Run run.Write → HasRoomWithin f × IsBounded depth f
-write-within depth f e = subst (λ z. HasRoomWithin z × IsBounded depth z) (sym e) (tt, tt)
+pub write-within : (depth : Option ℕ) (f : RunFault) → f ≡ run.Write → HasRoom f × IsBounded depth f
+write-within depth f e = subst (λ z. HasRoom z × IsBounded depth z) (sym e) (tt, tt)

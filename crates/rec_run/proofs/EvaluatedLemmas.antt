@@ -1,7 +1,7 @@
 -- From what an engine answers to the lines that are due.
 use Rattle.std.proofs.Common.{◌≡◌, ◌≢◌, ℕ, ◌+◌, ◌-◌, ◌<◌, ◌^◌, Bool, true, cond, List, [], ◌++◌, Option, Some, None}
-use Rattle.std.proofs.Common.{IsSome, IfSome, get_or, take, length, refl, sym, ap, ap₂, subst, ◌∙◌, arith, append-nil}
-use Rattle.std.specs.Prelude.{codes, decimal, is_some, unwrap_or}
+use Rattle.std.proofs.Common.{IsSome, IfErr, IfSome, Result, Ok, Err, get_or, take, length, refl, sym, ap, ap₂, subst, ◌∙◌, arith, append-nil}
+use Rattle.std.specs.Prelude.{◌||◌, codes, decimal, false, is_some, unwrap_or}
 use Rattle.std.specs.Option.{option_map}
 use Rattle.std.specs.Io.KnownBytes.{Appends}
 use Rattle.std.specs.FinMap as map
@@ -26,18 +26,22 @@ use Rattle.rec_engine.specs.Engine.{EngineState, IsGiven, IsOutcome, SameEngine,
 use Rattle.rec_engine.specs.declared.engine.Outcome.{Outcome}
 use Rattle.rec_engine.specs.declared.engine.Outcome.TheVariants.{Value, Limit}
 use Rattle.rec_memo.specs.Pairs.{Pairs}
-use Rattle.rec_run.specs.EvaluatedLines.{IsThereFor, LineLacks, ProtectsTerms, RunLacks, StaysFor, due_before, outcome_text, fault_after, limit_notes, said}
+use Rattle.rec_run.specs.EvaluatedLines.{IsThereFor, ProtectsTerms, RunLacks, StaysFor, due_before, outcome_text, fault_after, limit_notes, said}
+use Rattle.rec_run.specs.EvaluatedLines.{is_limit_line, outcome_line, unsaid, value_of}
 use Rattle.rec_run.specs.GivenTerms.{HoldsTerms, given_at, given_text, item_at}
 use Rattle.rx_run.specs.Due.{steps_text}
 use Rattle.rec_run.specs.Reading.{line_text, evaluation_text, term_at, text_at}
 use Rattle.rx_run.specs.Run.{Reports, ReportsAfter, Stops, StopsAfter}
+use Rattle.rx_text.specs.Output.{IsSameOutput}
+use Rattle.rx_text.specs.declared.output.Output.{Output}
+use Rattle.rx_run.specs.Streams.{is_read, is_write}
 use Rattle.rx_run.specs.declared.ending.RunFault.{RunFault}
 use Rattle.rx_run.specs.declared.ending.RunFault.TheVariants as run
-use Rattle.rec_run.specs.declared.spec.lines.LineFault.{LineFault}
-use Rattle.rec_run.specs.declared.spec.lines.LineFault.TheVariants.{Memory, Room, Write}
-use Rattle.rec_run.specs.Output.{Shown, limit_text, notes_text, shown_by}
+use Rattle.rec_run.specs.Output.{Shown, limit_text, notes_text, shown_of}
+use Rattle.rec_run.specs.Output.{Printed, Whole, Longer, is_longer, printed, value_text}
 use Rattle.rec_run.specs.declared.options.LimitLines.{LimitLines}
 use Rattle.rec_run.specs.declared.options.LimitLines.TheVariants.{Bare, Annotated}
+use Rattle.rec_run.specs.declared.options.RunSettings.{RunSettings}
 use Rattle.rec_run.proofs.GivenLemmas.{all_trees, annotations_trees, notes-newlines}
 use Rattle.rec_run.proofs.GivenListLemmas.{FrontAt}
 use Rattle.rx_run.proofs.LineFrontLemmas.{NoEnds, ends_before, front_in_line, front_in_lines, lines_of}
@@ -51,23 +55,33 @@ line_said : (limits : LimitLines) (n : ℕ) (notes : Trees) → codes "!limit " 
 line_said Bare n notes = append-nil (codes "!limit " ++ decimal n)
 line_said Annotated n notes = refl
 
+-- what the line of a value says stands behind it
+value_said : (limits : LimitLines) (notes : Trees) (steps : List ℕ) (p : Printed) → unsaid steps p ++ said (is_longer p) limits notes
+    ≡ value_text limits notes steps p
+value_said limits notes steps (Whole text) = append-nil (text ++ steps)
+value_said Bare notes steps (Longer most) = append-nil (codes "!bytes " ++ decimal most)
+value_said Annotated notes steps (Longer most) = refl
+
 -- with what is said besides it is the text of the term's line
-pub outcome_text-line : (y : Spec) (w : Store) (counted : Bool) (limits : LimitLines) (n : ℕ) (u : Tree) (o : Outcome) → IsOutcome y w n u o
-    → outcome_text w counted n o ++ said o limits (annotations u) ≡ given_text y (shown_by counted limits) n u
-outcome_text-line y w counted limits n u (Value r steps) h =
+pub outcome_text-line : (y : Spec) (w : Store) (s : RunSettings) (u : Tree) (o : Outcome) → IsOutcome y w s.options.steps u o
+    → outcome_text s w o ++ said (is_limit_line s.form w o) s.limits (annotations u) ≡ given_text y (shown_of s) s.options.steps u
+outcome_text-line y w s u (Value r steps) h =
+    let n = s.options.steps in
     let spent = h.spent in
     let back : steps ≡ n - h.left = omega (arith, spent) in
-    append-nil (canon (item_at w r) ++ steps_text counted steps)
-    ∙ ap₂ (λ t k. canon t ++ steps_text counted k) (ap (λ o. unwrap_or o (list_of none)) h.there) back
-    ∙ ap (evaluation_text (annotations u) (shown_by counted limits) n) (sym h.evaluated)
-outcome_text-line y w counted limits n u Limit h = line_said limits n (annotations u) ∙ ap (evaluation_text (annotations u) (shown_by counted limits) n) (sym h)
+    value_said s.limits (annotations u) (steps_text s.options.count steps) (value_of s.form w r)
+    ∙ ap₂ (λ t k. value_text s.limits (annotations u) (steps_text s.options.count k) (printed s.form (canon t)))
+    (ap (λ o. unwrap_or o (list_of none)) h.there) back
+    ∙ ap (evaluation_text (annotations u) (shown_of s) n) (sym h.evaluated)
+outcome_text-line y w s u Limit h = line_said s.limits s.options.steps (annotations u)
+    ∙ ap (evaluation_text (annotations u) (shown_of s) s.options.steps) (sym h)
 
 -- what is said of a term that stays
-said_stays : (o : Outcome) (limits : LimitLines) (old new : Store) (t : Reference) → StaysFor limits old t → Keeps old new []
-    → said o limits (annotations (item_at new t)) ≡ said o limits (annotations (item_at old t))
-said_stays (Value r steps) limits old new t h keeps = refl
-said_stays Limit Bare old new t h keeps = refl
-said_stays Limit Annotated old new t h keeps = ap (λ u. notes_text (annotations (unwrap_or u (list_of none)))) (h new keeps)
+said_stays : (b : Bool) (limits : LimitLines) (old new : Store) (t : Reference) → StaysFor limits old t → Keeps old new []
+    → said b limits (annotations (item_at new t)) ≡ said b limits (annotations (item_at old t))
+said_stays false limits old new t h keeps = refl
+said_stays true Bare old new t h keeps = refl
+said_stays true Annotated old new t h keeps = ap (λ u. notes_text (annotations (unwrap_or u (list_of none)))) (h new keeps)
 
 -- a term that stays is there
 pub there_for : {B : Type 0} (store : B → Store) (limits : LimitLines) (old : Store) (again new : B) (t : Reference) → again ≡ new
@@ -84,19 +98,18 @@ of_held (Some u) P held h = h
 pub given_item : (y : Spec) (w : Store) (t : Reference) (given : IsGiven y w t) → item_at w t ≡ given.tree
 given_item y w t given = ap (λ o. unwrap_or o (list_of none)) given.held
 
--- what is shown of an answer, by the bank that an engine gives twice, is the text of the line of the term that was given
+-- what is shown of an answer is the text of the line of the term that was given
 pub answered-line :
-    {B : Type 0} (store : B → Store) (y z : Spec) (old : Store) (asked again new : B) (counted : Bool) (limits : LimitLines) (n : ℕ) (t : Reference)
-    (o : Outcome) → asked ≡ new → again ≡ new → IsGiven y old t → z ≡ y → ((u : Tree) → tree_at old t ≡ Some u → IsOutcome z (store new) n u o)
-    → StaysFor limits old t → Keeps old (store new) []
-    → outcome_text (store asked) counted n o ++ said o limits (annotations (item_at (store again) t)) ≡ given_text y (shown_by counted limits) n (item_at old t)
-answered-line store y z old asked again new counted limits n t o one two given same answered stays keeps =
-    let shown = shown_by counted limits in
-    ap₂ (λ text more. text ++ more) (ap (λ b. outcome_text (store b) counted n o) one)
-    (ap (λ b. said o limits (annotations (item_at (store b) t))) two ∙ said_stays o limits old (store new) t stays keeps
-    ∙ ap (λ u. said o limits (annotations u)) (given_item y old t given))
-    ∙ outcome_text-line z (store new) counted limits n given.tree o (answered given.tree given.held)
-    ∙ ap (λ x. given_text x shown n given.tree) same ∙ ap (given_text y shown n) (sym (given_item y old t given))
+    (y z : Spec) (old new : Store) (s : RunSettings) (t : Reference) (o : Outcome) → IsGiven y old t → z ≡ y
+    → ((u : Tree) → tree_at old t ≡ Some u → IsOutcome z new s.options.steps u o) → StaysFor s.limits old t → Keeps old new []
+    → outcome_line s new t o ≡ given_text y (shown_of s) s.options.steps (item_at old t)
+answered-line y z old new s t o given same answered stays keeps =
+    let n = s.options.steps in
+    ap (λ more. outcome_text s new o ++ more)
+    (said_stays (is_limit_line s.form new o) s.limits old new t stays keeps
+    ∙ ap (λ u. said (is_limit_line s.form new o) s.limits (annotations u)) (given_item y old t given))
+    ∙ outcome_text-line z new s given.tree o (answered given.tree given.held)
+    ∙ ap (λ x. given_text x (shown_of s) n given.tree) same ∙ ap (given_text y (shown_of s) n) (sym (given_item y old t given))
 
 -- the text of the line of the term at the front of a rest
 pub front-line : (y z : Spec) (w : Store) (us : List Tree) (rest r : Reference) (i : ℕ) (shown : Shown) (n : ℕ) (here : FrontAt y w us rest i) → z ≡ y
@@ -141,16 +154,18 @@ own-line y z w shown n i t same low here =
 -- ---- faults
 
 -- a line's want of cells is the run's
-pub line_lacks : (w : Store) (work : List Reference) (m : Pairs) (f : LineFault) (lines : ℕ) (r : RunFault) → r ≡ fault_after f lines
-    → LineLacks w work m f → RunLacks w work m r
+pub line_lacks : (w : Store) (work : List Reference) (m : Pairs) (f : RunFault) (lines : ℕ) (r : RunFault) → r ≡ fault_after f lines
+    → RunLacks w work m f → RunLacks w work m r
 line_lacks w work m f lines r e h = subst (RunLacks w work m) (sym e) (of f h)
   where
-    of : (f : LineFault) → LineLacks w work m f → RunLacks w work m (fault_after f lines)
-    of Memory h = tt
-    of Room h = h
-    of Write h = tt
+    of : (f : RunFault) → RunLacks w work m f → RunLacks w work m (fault_after f lines)
+    of (run.Memory k) h = tt
+    of (run.Room k) h = h
+    of (run.Deep k) h = tt
+    of run.Read h = tt
+    of run.Write h = tt
 
-pub fault_after-same : (f : LineFault) (m n : ℕ) (r : RunFault) → r ≡ fault_after f m → m ≡ n → r ≡ fault_after f n
+pub fault_after-same : (f : RunFault) (m n : ℕ) (r : RunFault) → r ≡ fault_after f m → m ≡ n → r ≡ fault_after f n
 fault_after-same f m n r e same = e ∙ ap (fault_after f) same
 
 -- memory ran out before anything was written
@@ -158,59 +173,70 @@ pub stops_unwritten : (text : List ℕ) (old : Option (List ℕ)) → Stops (run
 stops_unwritten text old = record { written = []; appended = appends_same old; front = (text, refl); reported = refl }
 
 -- a front of a line's text is due before any fault of the line
-pub front_due : (f : LineFault) (text : List ℕ) (old new : Option (List ℕ)) → AppendsFront text old new → AppendsFront (due_before f text) old new
-front_due Memory text old new h = h
-front_due Room text old new h = h
-front_due Write text old new h = front_before old new text (codes "\n") h
+pub front_none : (old : Option (List ℕ)) (text : List ℕ) → AppendsFront text old old
+front_none old text = ([], appends_same old, (text, refl))
+
+pub front_due : (f : RunFault) (text : List ℕ) (old new : Option (List ℕ)) → AppendsFront text old new → AppendsFront (due_before f text) old new
+front_due (run.Memory k) text old new h = h
+front_due (run.Room k) text old new h = h
+front_due (run.Deep k) text old new h = h
+front_due run.Read text old new h = h
+front_due run.Write text old new h = front_before old new text (codes "\n") h
 
 -- ---- lines
 
-front_of : {X : Type 0} (w : LineFault) (f : X → List ℕ) (items : List X) (i : ℕ) (d : X) (front rest : List ℕ) → i < length items
+front_of : {X : Type 0} (w : RunFault) (f : X → List ℕ) (items : List X) (i : ℕ) (d : X) (front rest : List ℕ) → w ≢ run.Read → i < length items
     → due_before w (f (get_or items i d)) ≡ front ++ rest → IsFront (lines_of f (take i items) ++ front) (lines_of f items)
-front_of Memory f items i d front rest h e = front_in_lines f items i d front (rest ++ codes "\n") h (front_in_line (f (get_or items i d)) front rest e)
-front_of Room f items i d front rest h e = front_in_lines f items i d front (rest ++ codes "\n") h (front_in_line (f (get_or items i d)) front rest e)
-front_of Write f items i d front rest h e = front_in_lines f items i d front rest h e
+front_of (run.Memory k) f items i d front rest some h e = front_in_lines f items i d front (rest ++ codes "\n") h (front_in_line (f (get_or items i d)) front rest e)
+front_of (run.Room k) f items i d front rest some h e = front_in_lines f items i d front (rest ++ codes "\n") h (front_in_line (f (get_or items i d)) front rest e)
+front_of (run.Deep k) f items i d front rest some h e = front_in_lines f items i d front (rest ++ codes "\n") h (front_in_line (f (get_or items i d)) front rest e)
+front_of run.Read f items i d front rest some h e = absurd (some refl)
+front_of run.Write f items i d front rest some h e = front_in_lines f items i d front rest h e
 
-report_of : {X : Type 0} (w : LineFault) (f : X → List ℕ) (items : List X) (i : ℕ) (d : X) (front rest : List ℕ) → NoEnds f items → i < length items
+report_of : {X : Type 0} (w : RunFault) (f : X → List ℕ) (items : List X) (i : ℕ) (d : X) (front rest : List ℕ) → w ≢ run.Read → NoEnds f items → i < length items
     → due_before w (f (get_or items i d)) ≡ front ++ rest → Reports (fault_after w i) (lines_of f (take i items) ++ front)
-report_of Memory f items i d front rest no_ends h e = ends_before f items i d front rest no_ends h e
-report_of Room f items i d front rest no_ends h e = ends_before f items i d front rest no_ends h e
-report_of Write f items i d front rest no_ends h e = tt
+report_of (run.Memory k) f items i d front rest some no_ends h e = ends_before f items i d front rest no_ends h e
+report_of (run.Room k) f items i d front rest some no_ends h e = ends_before f items i d front rest no_ends h e
+report_of (run.Deep k) f items i d front rest some no_ends h e = ends_before f items i d front rest no_ends h e
+report_of run.Read f items i d front rest some no_ends h e = absurd (some refl)
+report_of run.Write f items i d front rest some no_ends h e = tt
 
-report_after : {X : Type 0} (w : LineFault) (first : ℕ) (f : X → List ℕ) (items : List X) (i : ℕ) (d : X) (front rest : List ℕ) → NoEnds f items
+report_after : {X : Type 0} (w : RunFault) (first : ℕ) (f : X → List ℕ) (items : List X) (i : ℕ) (d : X) (front rest : List ℕ) → w ≢ run.Read → NoEnds f items
     → i < length items → due_before w (f (get_or items i d)) ≡ front ++ rest
     → ReportsAfter first (fault_after w (first + i)) (lines_of f (take i items) ++ front)
-report_after Memory first f items i d front rest no_ends h e = ap (λ n. first + n) (ends_before f items i d front rest no_ends h e)
-report_after Room first f items i d front rest no_ends h e = ap (λ n. first + n) (ends_before f items i d front rest no_ends h e)
-report_after Write first f items i d front rest no_ends h e = tt
+report_after (run.Memory k) first f items i d front rest some no_ends h e = ap (λ n. first + n) (ends_before f items i d front rest no_ends h e)
+report_after (run.Room k) first f items i d front rest some no_ends h e = ap (λ n. first + n) (ends_before f items i d front rest no_ends h e)
+report_after (run.Deep k) first f items i d front rest some no_ends h e = ap (λ n. first + n) (ends_before f items i d front rest no_ends h e)
+report_after run.Read first f items i d front rest some no_ends h e = absurd (some refl)
+report_after run.Write first f items i d front rest some no_ends h e = tt
 
 -- a line stopped: so did the lines
 pub lines_stopped :
-    {X : Type 0} (w : LineFault) (f : X → List ℕ) (items : List X) (i : ℕ) (d : X) (old between new : Option (List ℕ)) → NoEnds f items → i < length items
-    → Appends old between (lines_of f (take i items))
+    {X : Type 0} (w : RunFault) (f : X → List ℕ) (items : List X) (i : ℕ) (d : X) (old between new : Option (List ℕ)) → w ≢ run.Read → NoEnds f items
+    → i < length items → Appends old between (lines_of f (take i items))
     → AppendsFront (due_before w (f (get_or items i d))) between new
     → Stops (fault_after w i) (lines_of f items) old new
-lines_stopped w f items i d old between new no_ends h so_far (front, appended, (rest, e)) =
+lines_stopped w f items i d old between new some no_ends h so_far (front, appended, (rest, e)) =
     record {
       written = lines_of f (take i items) ++ front;
       appended = appends_both old between new (lines_of f (take i items)) front so_far appended;
-      front = front_of w f items i d front rest h e;
-      reported = report_of w f items i d front rest no_ends h e;
+      front = front_of w f items i d front rest some h e;
+      reported = report_of w f items i d front rest some no_ends h e;
     }
 
 -- so did the lines behind others
 pub lines_stopped_after :
-    {X : Type 0} (w : LineFault) (first : ℕ) (f : X → List ℕ) (items : List X) (i : ℕ) (d : X) (old between new : Option (List ℕ)) → NoEnds f items
+    {X : Type 0} (w : RunFault) (first : ℕ) (f : X → List ℕ) (items : List X) (i : ℕ) (d : X) (old between new : Option (List ℕ)) → w ≢ run.Read → NoEnds f items
     → i < length items
     → Appends old between (lines_of f (take i items))
     → AppendsFront (due_before w (f (get_or items i d))) between new
     → StopsAfter first (fault_after w (first + i)) (lines_of f items) old new
-lines_stopped_after w first f items i d old between new no_ends h so_far (front, appended, (rest, e)) =
+lines_stopped_after w first f items i d old between new some no_ends h so_far (front, appended, (rest, e)) =
     record {
       written = lines_of f (take i items) ++ front;
       appended = appends_both old between new (lines_of f (take i items)) front so_far appended;
-      front = front_of w f items i d front rest h e;
-      reported = report_after w first f items i d front rest no_ends h e;
+      front = front_of w f items i d front rest some h e;
+      reported = report_after w first f items i d front rest some no_ends h e;
     }
 
 -- the line of no term of a list has a line end before its own
@@ -266,13 +292,27 @@ same_engine_both p q = record { spec = q.spec ∙ p.spec; options = q.options �
 
 -- ---- whose fault it is
 
--- the run's fault is the writer's only where the line's was, and never a reader's
-pub after_write : (f : LineFault) (lines : ℕ) (r : RunFault) → r ≡ fault_after f lines → r ≡ run.Write → f ≡ Write
-after_write Memory lines r e is = absurd (cc (e, is))
-after_write Room lines r e is = absurd (cc (e, is))
-after_write Write lines r e is = refl
+-- a line's fault is of the same stream as its run's
+after_kind : (f : RunFault) (lines : ℕ) → (is_write (fault_after f lines) ≡ is_write f) × (is_read (fault_after f lines) ≡ is_read f)
+after_kind (run.Memory k) lines = (refl, refl)
+after_kind (run.Room k) lines = (refl, refl)
+after_kind (run.Deep k) lines = (refl, refl)
+after_kind run.Read lines = (refl, refl)
+after_kind run.Write lines = (refl, refl)
 
-pub after_read : (f : LineFault) (lines : ℕ) (r : RunFault) → r ≡ fault_after f lines → r ≢ run.Read
-after_read Memory lines r e is = cc (e, is)
-after_read Room lines r e is = cc (e, is)
-after_read Write lines r e is = cc (e, is)
+-- what a line's fault reports of the output, its run's does
+pub after_reports : {W : Type 0} (old mid new : Output W) (f : RunFault) (lines : ℕ) (r : RunFault) → r ≡ fault_after f lines → IsSameOutput old mid
+    → mid.refused ≡ old.refused → (IsSameOutput mid new × (new.refused ≡ (is_write f || mid.refused))) × (is_read f ≡ false)
+    → (IsSameOutput old new × (new.refused ≡ (is_write r || old.refused))) × (is_read r ≡ false)
+after_reports old mid new f lines r e same kept h = (
+  (h.0.0 ∙ same, h.0.1 ∙ ap₂ (λ a b. a || b) (sym (ap is_write e ∙ (after_kind f lines).0)) kept),
+  ap is_read e ∙ (after_kind f lines).1 ∙ h.1,
+)
+
+-- a fault that is not the reader's
+pub no_reader : (f : RunFault) → is_read f ≡ false → f ≢ run.Read
+no_reader (run.Memory k) h is = cc is
+no_reader (run.Room k) h is = cc is
+no_reader (run.Deep k) h is = cc is
+no_reader run.Read h is = absurd (cc h)
+no_reader run.Write h is = cc is

@@ -2,6 +2,7 @@
 use Rattle.std.proofs.Common.{◌≡◌, ℕ, ◌+◌, List, Option, Some, None, Result, Ok, Err, IfErr, IfOk}
 use Rattle.std.proofs.Common.{IfSome, IsErrAnd, IsSome, OnOk, take, refl, sym, ap, subst, ◌∙◌, arith}
 use Rattle.std.specs.Prelude.{option_map}
+use Rattle.std.specs.declared.vec.Vec.{Vec}
 use Rattle.std.proofs.lemmas.List.{length-take}
 use Rattle.rx_term.specs.Tree.{Tree}
 use Rattle.rx_term.specs.Store.{Store, tree_at}
@@ -15,15 +16,17 @@ use Rattle.rec_sorts.specs.TermRules.{broken_by_terms}
 use Rattle.rec_sorts.specs.TermsFaults.{IsTermsFault}
 use Rattle.rec_sorts.specs.declared.fault.TermsFault.{TermsFault}
 use Rattle.rec_sorts.specs.declared.fault.TermsFault.TheVariants as rule
-use Rattle.rec_run.specs.GivenTerms.{EndsRefused, HoldsList, HoldsTerms, IsListRead, IsReadAs, IsReadFor, IsReadFrom, IsReady, IsRefusal}
+use Rattle.rec_run.specs.GivenTerms.{EndsRefused, HoldsList, HoldsTerms, IsJobAfter, IsJobRead, IsListRead, IsReadAs, IsReadFor, IsReadFrom, IsReady, IsRefusal}
 use Rattle.rec_run.specs.GivenTerms.{IsRefused, IsTermsRead, refused_terms, OnGoodSpec, OnRefusedSpec, job_alone_of, job_of, list_refused}
 use Rattle.rx_run.specs.TermRuns.{IsReadingOf}
 use Rattle.rec_run.specs.Output.{GoodTerms, BreaksTerms, TooLong, Outside, Shown, TermsVerdict, IsTermsVerdict, due_of_terms}
-use Rattle.rx_run.specs.Run.{fault_of_read}
-use Rattle.rec_run.specs.Reading.{IsGood, IsSpecRead, IsSpecReading}
+use Rattle.rx_run.specs.Run.{StopsReading}
+use Rattle.rec_run.proofs.FaultLemmas.{reading_has_room}
+use Rattle.rec_run.specs.Reading.{IsGood, IsSpecRead, IsSpecReading, KeepsText}
 use Rattle.rx_run.specs.Refusals.{refusal_due, refused_text}
 use Rattle.rec_run.specs.Reading.{refused_spec}
-use Rattle.rec_run.specs.Run.{HasRoom, both_texts}
+use Rattle.rec_run.specs.InputTerms.{IsFrontOf}
+use Rattle.rec_run.specs.Run.{HasRoom, Texts, both_texts}
 use Rattle.rx_run.specs.declared.ending.RunFault.{RunFault}
 use Rattle.rx_run.specs.declared.ending.RunFault.TheVariants as fault
 use Rattle.rx_run.specs.declared.ending.Source.TheVariants as source
@@ -32,8 +35,6 @@ use Rattle.rx_run.specs.declared.refusal.Reading.TheVariants.{Good as GoodSpec, 
 use Rattle.rx_run.specs.declared.refusal.Reading.TheVariants.{Good as GoodRun, Refused as RefusedRun}
 use Rattle.rx_run.specs.declared.refusal.Reason.TheVariants as reason
 use Rattle.rx_run.specs.declared.refusal.Refusal.{Refusal}
-use Rattle.rx_run.specs.declared.streams.ReadFault.{ReadFault}
-use Rattle.rx_run.specs.declared.streams.ReadFault.TheVariants as unreadable
 use Rattle.rx_run.specs.declared.streams.TheConstants.{LIMIT}
 use Rattle.rec_run.specs.declared.spec.reading.Job.{Job}
 use Rattle.rec_run.proofs.GivenLemmas.{given_elements, holds_terms, kept_elements}
@@ -48,13 +49,7 @@ terms_front y bytes (Outside at) h = subst (λ text. IsTermsVerdict y text (Outs
 terms_front y bytes (BreaksTerms number) h = subst (λ text. IsTermsVerdict y text (BreaksTerms number)) (short_front bytes h.0) h
 terms_front y bytes (GoodTerms us) h = subst (λ text. IsTermsVerdict y text (GoodTerms us)) (short_front bytes h.0) h
 
--- what was read of a text of terms is the verdict on it
-pub read_front : (known : Option (List ℕ)) (text given : List ℕ) (y : Spec) (w : Store) (r : Reading Reference)
-    → IfSome known (λ bytes. text ≡ take (LIMIT + 1) bytes) → given ≡ text → IsTermsRead y w given r → IfSome known (λ bytes. IsTermsRead y w bytes r)
-read_front None text given y w r front same h = tt
-read_front (Some bytes) text given y w r front same (v, h, is) = (v, terms_front y bytes v (subst (λ t. IsTermsVerdict y t v) (same ∙ front) h), is)
-
--- so it says what is due for the text
+-- the verdict on a text of terms says what is due for it
 refused_due : (y : Spec) (shown : Shown) (n : ℕ) (r : Refusal) (v : TermsVerdict) → refused_terms v ≡ Some r → refusal_due r ≡ due_of_terms y shown n v
 refused_due y shown n r TooLong e = ap refusal_due (same_refusal e)
 refused_due y shown n r (Outside at) e = ap refusal_due (same_refusal e)
@@ -65,21 +60,33 @@ list_read : (y : Spec) (w : Store) (bytes : List ℕ) (r : Reading Reference) �
 list_read y w bytes (RefusedRun r) (v, h, is) = λ shown n. (v, h, refused_due y shown n r v is)
 list_read y w bytes (GoodRun list) (v, h, is) = λ shown n. (v, h, ap (due_of_terms y shown n) (sym is))
 
-pub read_due : (known : Option (List ℕ)) (y : Spec) (w : Store) (r : Reading Reference) → IfSome known (λ bytes. IsTermsRead y w bytes r)
-    → IfSome known (λ bytes. IsListRead y w bytes r)
-read_due None y w r h = tt
-read_due (Some bytes) y w r h = list_read y w bytes r h
-
 -- and with a good specification what is due for both texts
 job_read : (w : Store) (checked : Sourced) (bytes : List ℕ) (r : Reading Reference) → IsListRead checked.spec w bytes r
-    → IsReadFor w checked.spec bytes (job_of checked r)
+    → IsReadFor w checked.spec (Some bytes) (job_of checked r)
 job_read w checked bytes (RefusedRun r) h = h
 job_read w checked bytes (GoodRun list) h = h
 
-pub job_due : (w : Store) (known : Option (List ℕ)) (checked : Sourced) (r : Reading Reference) (job : Reading Job) → job ≡ job_of checked r
-    → IfSome known (λ bytes. IsListRead checked.spec w bytes r) → IfSome known (λ bytes. IsReadFor w checked.spec bytes job)
-job_due w None checked r job e h = tt
-job_due w (Some bytes) checked r job e h = subst (IsReadFor w checked.spec bytes) (sym e) (job_read w checked bytes r h)
+-- one byte past the limit is enough for what both texts come to
+job_front : (w : Store) (checked : Sourced) (given read : Option (List ℕ)) (r : Reading Job) → read ≡ option_map (take (LIMIT + 1)) given
+    → IsJobAfter w read (GoodSpec checked) r → IsJobAfter w given (GoodSpec checked) r
+job_front w checked None read r e h = subst (λ z. IsJobAfter w z (GoodSpec checked) r) e h
+job_front w checked (Some bytes) read r e h =
+    let (t, (v, is, these), same) = subst (λ z. IsJobAfter w z (GoodSpec checked) r) e h in
+    (t, (v, terms_front checked.spec bytes v is, these), same)
+
+pub read_given : {Z : Type 0} (w : Store) (checked : Sourced) (result : Result (Reading Job) RunFault) (read : Option (Vec ℕ Z))
+    (known : Option (Option (List ℕ))) → IfSome known (IsFrontOf read)
+    → IfOk result (IsJobAfter w (option_map (λ v. v.items) read) (GoodSpec checked))
+    → IfOk result (λ r. IfSome known (λ given. IsJobAfter w given (GoodSpec checked) r))
+read_given w checked (Err e) read known front h = tt
+read_given w checked (Ok r) read None front h = tt
+read_given w checked (Ok r) read (Some given) front h = job_front w checked given _ r front h
+
+-- a refused specification is all that counts
+pub refused_first : (w : Store) (q : Refusal) (first : Reading Sourced) (known : Option (Option (List ℕ))) → first ≡ RefusedSpec q
+    → IfSome known (λ given. IsJobAfter w given first (RefusedRun q))
+refused_first w q first None e = tt
+refused_first w q first (Some given) e = subst (λ z. IsJobAfter w given z (RefusedRun q)) (sym e) refl
 
 -- which can be evaluated
 pub job_ready : (w : Store) (checked : Sourced) (r : Reading Reference) → HoldsList checked.spec w r → IsReady w (job_of checked r)
@@ -156,19 +163,34 @@ list_holds w y list there h = by (tree_at w list) refl there h
     by None here there kept = absurd (cc there)
     by (Some t) here there kept = holds_terms y w list t here kept
 
--- what both texts came to, where terms are given
-read_both : (w : Store) (bytes given : Option (List ℕ)) (first : Reading Sourced) (r : Reading Job) → IfSome bytes (λ b. IsSpecRead b first)
-    → ((v : Verdict) → IsSpecReading first v → IfSome given (λ b. IsReadAs w v b r))
-    → IfSome (both_texts bytes (option_map (λ b. Some b) given)) (λ texts. IsReadFrom w texts r)
-read_both w None given first r h k = tt
-read_both w (Some b) None first r h k = tt
-read_both w (Some b) (Some t) first r (v, h, is) k = λ shown n. (v, h, k v is shown n)
+-- what both texts came to
+read_both : (w : Store) (bytes : Option (List ℕ)) (given : Option (Option (List ℕ))) (first : Reading Sourced) (r : Reading Job)
+    → IfSome bytes (λ b. IsSpecRead b first) → IfSome bytes (λ b. KeepsText b first) → IfSome given (λ terms. IsJobAfter w terms first r)
+    → IfSome (both_texts bytes given) (λ texts. IsJobRead w texts r)
+read_both w None given first r h kept k = tt
+read_both w (Some b) None first r h kept k = tt
+read_both w (Some b) (Some terms) first r h kept k = (first, h, kept, k)
 
-pub read_with : (w : Store) (result : Result (Reading Job) RunFault) (bytes given : Option (List ℕ)) (first : Reading Sourced)
-    → IfSome bytes (λ b. IsSpecRead b first) → IfOk result (λ r. (v : Verdict) → IsSpecReading first v → IfSome given (λ b. IsReadAs w v b r))
-    → IfOk result (λ r. IfSome (both_texts bytes (option_map (λ b. Some b) given)) (λ texts. IsReadFrom w texts r))
-read_with w (Err e) bytes given first h k = tt
-read_with w (Ok r) bytes given first h k = read_both w bytes given first r h k
+pub read_with : (w : Store) (result : Result (Reading Job) RunFault) (bytes : Option (List ℕ)) (given : Option (Option (List ℕ)))
+    (first : Reading Sourced) → IfSome bytes (λ b. IsSpecRead b first) → IfSome bytes (λ b. KeepsText b first)
+    → IfOk result (λ r. IfSome given (λ terms. IsJobAfter w terms first r))
+    → IfOk result (λ r. IfSome (both_texts bytes given) (λ texts. IsJobRead w texts r))
+read_with w (Err e) bytes given first h kept k = tt
+read_with w (Ok r) bytes given first h kept k = read_both w bytes given first r h kept k
+
+-- that says what is due for them
+due_after : (w : Store) (given : Option (List ℕ)) (first : Reading Sourced) (r : Reading Job) (v : Verdict) → IsSpecReading first v
+    → IsJobAfter w given first r → IsReadAs w v given r
+due_after w given (RefusedSpec q) r v is h = subst (IsReadAs w v given) (sym h) (λ shown n. after_refusal v q given shown n is)
+due_after w None (GoodSpec checked) r v is h =
+    subst (λ z. IsReadAs w z None r) (sym is) (subst (IsReadFor w checked.spec None) (sym h) (λ shown n. refl))
+due_after w (Some bytes) (GoodSpec checked) r v is (t, k, e) =
+    subst (λ z. IsReadAs w z (Some bytes) r) (sym is) (subst (IsReadFor w checked.spec (Some bytes)) (sym e)
+    (job_read w checked bytes t (list_read checked.spec w bytes t k)))
+
+pub due_read : (w : Store) (texts : Option Texts) (r : Reading Job) → IfSome texts (λ t. IsJobRead w t r) → IfSome texts (λ t. IsReadFrom w t r)
+due_read w None r h = tt
+due_read w (Some t) r (first, (v, h, is), kept, after) = λ shown n. (v, h, due_after w t.terms first r v is after shown n)
 
 -- what holds where a refused specification was read holds where its text is refused
 pub on_refused : (P : Type 0) (bytes : Option (List ℕ)) (first : Reading Sourced) → IfSome bytes (λ b. IsSpecRead b first)
@@ -189,22 +211,11 @@ refused_any None h = tt
 refused_any (Some b) h = λ v is refused. h
 
 -- a reader's fault is not want of cells
-pub read_fault_refused : (r : Result (Reading Job) RunFault) (e : ReadFault) → IsErrAnd r (λ f. f ≡ fault_of_read e) → EndsRefused r
-read_fault_refused (Ok x) e h = absurd h
-read_fault_refused (Err f) e h = subst HasRoom (sym h) (of e)
-  where
-    of : (e : ReadFault) → HasRoom (fault_of_read e)
-    of unreadable.Memory = tt
-    of unreadable.Read = tt
+pub read_fault_refused : (r : Result (Reading Job) RunFault) (e : RunFault) → IsErrAnd r (λ f. f ≡ e) → StopsReading e → EndsRefused r
+read_fault_refused (Ok x) e h k = absurd h
+read_fault_refused (Err f) e h k = subst HasRoom (sym h) (reading_has_room e k)
 
 -- without given terms nothing is read behind a refused specification
-pub refused_alone : (first : Reading Sourced) (r : Reading Job) → r ≡ job_alone_of first → (v : Verdict) → IsSpecReading first v → IsRefusal v → IsRefused r
-refused_alone first r e v is refused = subst IsRefused (sym e) (of first v is refused)
-  where
-    of : (first : Reading Sourced) (v : Verdict) → IsSpecReading first v → IsRefusal v → IsRefused (job_alone_of first)
-    of (RefusedSpec r) v is refused = tt
-    of (GoodSpec checked) v is refused = absurd (subst IsRefusal is refused)
-
 -- what was read of a good specification is one
 good_reading : (first : Reading Sourced) (v : Verdict) (y : Spec) → IsSpecReading first v → v ≡ Good y → IsGood first
 good_reading (RefusedSpec r) v y is e = cc (is, e)
@@ -217,15 +228,3 @@ pub terms_out : {X E : Type 0} (P : Type 0) (result : Result X E) (bytes : Optio
 terms_out P (Err e) bytes first h k = tt
 terms_out P (Ok x) None first h k = tt
 terms_out P (Ok x) (Some b) first (v, h, came) k = λ y is. k (good_reading first v y came (one_verdict b v (Good y) h is))
-
--- where a specification is refused
-pub read_after_refusal : (w : Store) (r : Refusal) (given : Option (List ℕ)) (v : Verdict) → refused_spec v ≡ Some r
-    → IfSome given (λ b. IsReadAs w v b (RefusedRun r))
-read_after_refusal w r None v e = tt
-read_after_refusal w r (Some b) v e = λ shown n. after_refusal v r (Some b) shown n e
-
--- where it is good
-pub read_after_good : (w : Store) (checked : Sourced) (given : Option (List ℕ)) (r : Reading Job) → IfSome given (λ b. IsReadFor w checked.spec b r)
-    → (v : Verdict) → v ≡ Good checked.spec → IfSome given (λ b. IsReadAs w v b r)
-read_after_good w checked None r h v e = tt
-read_after_good w checked (Some b) r h v e = subst (λ z. IsReadAs w z b r) (sym e) h

@@ -15,6 +15,10 @@ pub mod DepthLemmas
 mod TermRows
 mod DueRows
 mod GivenRows
-mod ReadsLemmas
+pub mod ReadsLemmas
 mod PlacedLemmas
 mod RefusedItemLemmas
+pub mod ReportLemmas
+pub mod ToldLemmas
+pub mod LimitLineLemmas
+pub mod PrintedLemmas

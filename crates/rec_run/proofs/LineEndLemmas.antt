@@ -1,10 +1,8 @@
 -- What the text of a line has no line end in.
-use Rattle.std.proofs.Common.{◌≡◌, ℕ, ◌+◌, ◌/◌, ◌%◌, ◌<◌, ◌^◌, Bool, true, false, not, ◌&&◌, ◌||◌, ◌==◌, cond, List, [], ◌∷◌, ◌++◌, refl, arith}
+use Rattle.std.proofs.Common.{◌≡◌, ℕ, zero, suc, ◌+◌, ◌/◌, ◌%◌, ◌<◌, ◌^◌, Bool, true, false, not, ◌&&◌, ◌||◌, ◌==◌, cond, List, [], ◌∷◌, ◌++◌, refl, arith}
 use Rattle.std.specs.Prelude.{decimal, codes, flat_map, nat_le}
 use Rattle.std.specs.List.{list_all}
-use Rattle.std.specs.Str.Parse.{AllDigits}
-use Rattle.std.proofs.lemmas.Fmt.{decimal_is_IsNumeral}
-use Rattle.std.proofs.lemmas.Str.Parse.{digit_from_value}
+use Rattle.std.specs.Fmt.{digit_glyph, digits, digits_onto}
 use Rattle.std.proofs.lemmas.Bool.Decides.{nat_tests}
 use Rattle.std.proofs.lemmas.Bool.{leb-true}
 use Rattle.rx_term.specs.Tree.{Tree, Trees, Int, Appl, Items, Hole, none, more}
@@ -96,9 +94,15 @@ mutual
   canon_others-newlines (more t ts) h = above_end 44 (canon t ++ canon_others ts) (omega arith)
       (no_ends (canon t) (canon_others ts) (canon-newlines t h.0) (canon_others-newlines ts h.1))
 
-digits-newlines : (ds : List ℕ) → AllDigits 10 ds → newlines ds ≡ 0
-digits-newlines [] h = refl
-digits-newlines (d ∷ ds) h = let k = digit_from_value d h.0 in above_end d ds (omega (arith, k.0)) (digits-newlines ds h.1)
+glyph_above : (d : ℕ) → 10 < digit_glyph false d
+glyph_above d = grind (arith, nat_tests)
 
-pub decimal-newlines : (n : ℕ) → n < 2 ^ 64 → newlines (decimal n) ≡ 0
-decimal-newlines n h = digits-newlines (decimal n) (decimal_is_IsNumeral n h).0.1
+digits_onto-newlines : (k n : ℕ) (acc : List ℕ) → newlines acc ≡ 0 → newlines (digits_onto k 10 false n acc) ≡ 0
+digits_onto-newlines zero n acc h = h
+digits_onto-newlines (suc k) n acc h =
+    let more : newlines (digit_glyph false (n % 10) ∷ acc) ≡ 0 = above_end (digit_glyph false (n % 10)) acc (glyph_above (n % 10)) h in
+    chosen-newlines (n / 10 == 0) _ _ (λ _. more) (λ _. digits_onto-newlines k (n / 10) (digit_glyph false (n % 10) ∷ acc) more)
+
+pub decimal-newlines : (n : ℕ) → newlines (decimal n) ≡ 0
+unfolding digits
+decimal-newlines n = digits_onto-newlines 64 n [] refl

@@ -1,7 +1,7 @@
 -- The lines of a specification's terms and of given ones.
 use Rattle.std.proofs.Common.{get_or, length, ap₂, append_assoc, ◌≡◌, ℕ, ◌-◌, ◌<◌, ◌^◌, Bool, true}
-use Rattle.std.proofs.Common.{false, List, [], ◌∷◌, ◌++◌, refl, sym, ap, ◌∙◌, append-nil, arith}
-use Rattle.std.specs.Prelude.{flat_map, map, codes, decimal}
+use Rattle.std.proofs.Common.{cond, false, List, [], ◌∷◌, ◌++◌, refl, sym, ap, ◌∙◌, append-nil, arith}
+use Rattle.std.specs.Prelude.{flat_map, map, codes, decimal, nat_le}
 use Rattle.std.specs.Fmt.{signed_decimal}
 use Rattle.rx_term.specs.Tree.{Tree, Trees, Int, Appl, Items, Hole, annotated, annotations, none}
 use Rattle.rx_text.specs.Canon.{canon, canon_all, enclosed, name_text, no_arguments}
@@ -10,9 +10,12 @@ use Rattle.rec_sorts.specs.Evaluation.{Outcome, Done, Over, Eval, term_of}
 use Rattle.rx_run.specs.Bytes.{newlines}
 use Rattle.rec_run.specs.GivenTerms.{given_lines, given_text}
 use Rattle.rx_run.specs.Due.{steps_text}
-use Rattle.rec_run.specs.Output.{bare, limit_text, shown_by, Shown, notes_text, Task, lines, line}
+use Rattle.rec_run.specs.Output.{limit_text, shown_by, Shown, notes_text, Task, lines, line}
+use Rattle.rec_run.specs.Output.{Printed, Whole, Longer, bytes_text, printed, value_text}
 use Rattle.rec_run.specs.declared.options.LimitLines.{LimitLines}
 use Rattle.rec_run.specs.declared.options.LimitLines.TheVariants.{Bare, Annotated}
+use Rattle.rec_run.specs.declared.options.ValueForm.{ValueForm}
+use Rattle.rec_run.specs.declared.options.ValueForm.TheVariants.{Plain, Within}
 use Rattle.rec_run.specs.Reading.{evaluation_text, line_text}
 use Rattle.rec_engine.proofs.ValueTreeLemmas.{value_is_applied, applied_unannotated}
 use Rattle.rx_run.proofs.NewlineLemmas.{no_ends}
@@ -27,7 +30,7 @@ abbrev given : Tree → Task
 given u = record { term = term_of u; notes = annotations u }
 
 line-evaluation_text : (notes : Trees) (shown : Shown) (n : ℕ) (o : Outcome Tree) → ◌≡◌ {A = List ℕ} (elim o [
-  | Done v left ↦ canon (annotated v notes) ++ steps_text shown.count (n - left) ++ codes "\n"
+  | Done v left ↦ value_text shown.limits notes (steps_text shown.count (n - left)) (printed shown.form (canon (annotated v notes))) ++ codes "\n"
   | Over ↦ limit_text shown.limits n notes ++ codes "\n"
 ]) (evaluation_text notes shown n o ++ codes "\n")
 line-evaluation_text notes shown n (Done v left) = refl
@@ -50,20 +53,27 @@ pub lines-own : (y : Spec) (shown : Shown) (n : ℕ) → lines y [] shown n ≡ 
 lines-own y shown n = own_lines y shown n y.terms [] ∙ append-nil (lines_of (line_text y shown n) y.terms)
 
 -- they have no annotations, so limit lines have none
-own_text-any : (counted : Bool) (limits : LimitLines) (n : ℕ) (o : Outcome Tree)
-    → evaluation_text none (shown_by counted limits) n o ≡ evaluation_text none (bare counted) n o
-own_text-any counted limits n (Done v left) = refl
-own_text-any counted Bare n Over = refl
-own_text-any counted Annotated n Over = append-nil (codes "!limit " ++ decimal n)
+value_text-any : (limits : LimitLines) (steps : List ℕ) (p : Printed) → value_text limits none steps p ≡ value_text Bare none steps p
+value_text-any limits steps (Whole text) = refl
+value_text-any Bare steps (Longer most) = refl
+value_text-any Annotated steps (Longer most) = append-nil (codes "!bytes " ++ decimal most)
 
-own_lines-any : (y : Spec) (counted : Bool) (limits : LimitLines) (n : ℕ) (ts : List Term)
-    → lines_of (line_text y (shown_by counted limits) n) ts ≡ lines_of (line_text y (bare counted) n) ts
-own_lines-any y counted limits n [] = refl
-own_lines-any y counted limits n (t ∷ ts) = ap₂ (λ text more. text ++ codes "\n" ++ more) (own_text-any counted limits n (Eval y n [] t))
-    (own_lines-any y counted limits n ts)
+own_text-any : (counted : Bool) (limits : LimitLines) (form : ValueForm) (n : ℕ) (o : Outcome Tree)
+    → evaluation_text none (shown_by counted limits form) n o ≡ evaluation_text none (shown_by counted Bare form) n o
+own_text-any counted limits form n (Done v left) = value_text-any limits (steps_text counted (n - left)) (printed form (canon (annotated v none)))
+own_text-any counted Bare form n Over = refl
+own_text-any counted Annotated form n Over = append-nil (codes "!limit " ++ decimal n)
 
-pub lines-any : (y : Spec) (counted : Bool) (limits : LimitLines) (n : ℕ) → lines y [] (shown_by counted limits) n ≡ lines y [] (bare counted) n
-lines-any y counted limits n = lines-own y (shown_by counted limits) n ∙ own_lines-any y counted limits n y.terms ∙ sym (lines-own y (bare counted) n)
+own_lines-any : (y : Spec) (counted : Bool) (limits : LimitLines) (form : ValueForm) (n : ℕ) (ts : List Term)
+    → lines_of (line_text y (shown_by counted limits form) n) ts ≡ lines_of (line_text y (shown_by counted Bare form) n) ts
+own_lines-any y counted limits form n [] = refl
+own_lines-any y counted limits form n (t ∷ ts) = ap₂ (λ text more. text ++ codes "\n" ++ more) (own_text-any counted limits form n (Eval y n [] t))
+    (own_lines-any y counted limits form n ts)
+
+pub lines-any : (y : Spec) (counted : Bool) (limits : LimitLines) (form : ValueForm) (n : ℕ)
+    → lines y [] (shown_by counted limits form) n ≡ lines y [] (shown_by counted Bare form) n
+lines-any y counted limits form n = lines-own y (shown_by counted limits form) n ∙ own_lines-any y counted limits form n y.terms
+    ∙ sym (lines-own y (shown_by counted Bare form) n)
 
 -- those of given terms stand behind them
 pub lines-both : (y : Spec) (us : List Tree) (shown : Shown) (n : ℕ) → lines y us shown n ≡ lines y [] shown n ++ given_lines y shown n us
@@ -73,7 +83,7 @@ lines-both y us shown n =
 
 steps-newlines : (counted : Bool) (steps : ℕ) → steps < 2 ^ 64 → newlines (steps_text counted steps) ≡ 0
 steps-newlines false steps h = refl
-steps-newlines true steps h = no_ends (codes "\t") (decimal steps) refl (decimal-newlines steps h)
+steps-newlines true steps h = no_ends (codes "\t") (decimal steps) refl (decimal-newlines steps)
 
 -- annotations stand behind a text without annotations
 pub canon_annotated : (v : Tree) (notes : Trees) → annotations v ≡ none → canon (annotated v notes) ≡ canon v ++ notes_text notes
@@ -87,19 +97,37 @@ canon_annotated (Hole inner anns) notes e = sym (ap (λ a. canon (Hole inner a) 
     ∙ append_assoc (60 ∷ canon inner) (62 ∷ []) (notes_text notes))
 
 bare-newlines : (n : ℕ) → n < 2 ^ 64 → newlines (codes "!limit " ++ decimal n) ≡ 0
-bare-newlines n h = no_ends (codes "!limit ") (decimal n) refl (decimal-newlines n h)
+bare-newlines n h = no_ends (codes "!limit ") (decimal n) refl (decimal-newlines n)
 
 limit-newlines : (limits : LimitLines) (n : ℕ) (notes : Trees) → newlines (notes_text notes) ≡ 0 → n < 2 ^ 64 → newlines (limit_text limits n notes) ≡ 0
 limit-newlines Bare n notes k h = bare-newlines n h
 limit-newlines Annotated n notes k h = no_ends (codes "!limit " ++ decimal n) (notes_text notes) (bare-newlines n h) k
 
+bare_bytes-newlines : (most : ℕ) → newlines (codes "!bytes " ++ decimal most) ≡ 0
+bare_bytes-newlines most = no_ends (codes "!bytes ") (decimal most) refl (decimal-newlines most)
+
+bytes-newlines : (limits : LimitLines) (most : ℕ) (notes : Trees) → newlines (notes_text notes) ≡ 0 → newlines (bytes_text limits most notes) ≡ 0
+bytes-newlines Bare most notes k = bare_bytes-newlines most
+bytes-newlines Annotated most notes k = no_ends (codes "!bytes " ++ decimal most) (notes_text notes) (bare_bytes-newlines most) k
+
+-- the line of a value whose text has no line end, in each form
+within-newlines : (limits : LimitLines) (notes : Trees) (steps text : List ℕ) (most : ℕ) (b : Bool) → newlines (notes_text notes) ≡ 0 → newlines steps ≡ 0
+    → newlines text ≡ 0 → newlines (value_text limits notes steps (cond b (Whole text) (Longer most))) ≡ 0
+within-newlines limits notes steps text most true k h e = no_ends text steps e h
+within-newlines limits notes steps text most false k h e = bytes-newlines limits most notes k
+
+value_text-newlines : (limits : LimitLines) (notes : Trees) (steps text : List ℕ) (form : ValueForm) → newlines (notes_text notes) ≡ 0
+    → newlines steps ≡ 0 → newlines text ≡ 0 → newlines (value_text limits notes steps (printed form text)) ≡ 0
+value_text-newlines limits notes steps text Plain k h e = no_ends text steps e h
+value_text-newlines limits notes steps text (Within most) k h e = within-newlines limits notes steps text most (nat_le (length text) most) k h e
+
 evaluation_text-newlines : (y : Spec) (notes : Trees) (shown : Shown) (n : ℕ) (t : Term) (o : Outcome Tree) → newlines (notes_text notes) ≡ 0
     → n < 2 ^ 64 → Eval y n [] t ≡ o → newlines (evaluation_text notes shown n o) ≡ 0
 evaluation_text-newlines y notes shown n t (Done v left) k h e =
     let a = value_is_applied y n t v left e in
-    no_ends (canon (annotated v notes)) (steps_text shown.count (n - left))
-    (ap newlines (canon_annotated v notes (applied_unannotated v a)) ∙ no_ends (canon v) (notes_text notes) (canon-newlines v a) k)
+    value_text-newlines shown.limits notes (steps_text shown.count (n - left)) (canon (annotated v notes)) shown.form k
     (steps-newlines shown.count (n - left) (omega (arith, h)))
+    (ap newlines (canon_annotated v notes (applied_unannotated v a)) ∙ no_ends (canon v) (notes_text notes) (canon-newlines v a) k)
 evaluation_text-newlines y notes shown n t Over k h e = limit-newlines shown.limits n notes k h
 
 -- a line's text has no line end

@@ -9,6 +9,7 @@ use Rattle.std.specs.Fmt.{digits}
 use Rattle.rec_sorts.specs.Evaluation.{Eval}
 use Rattle.rec_run.specs.Output.{bare, each_line, shown_by}
 use Rattle.rec_run.specs.declared.options.LimitLines.TheVariants.{Annotated}
+use Rattle.rec_run.specs.declared.options.ValueForm.TheVariants.{Plain, Within}
 
 -- a word at a place
 abbrev w : ℕ → List ℕ → Word
@@ -127,10 +128,23 @@ annotated_limit = refl
 annotated_limits : each_line q
     ((Appl (codes "f") false (more (Appl (codes "f") false (more (Appl (codes "a") false none none) none) none) none)
     (more (Appl (codes "b") false none none) none)) ∷ (Appl (codes "f") false
-    (more (Appl (codes "f") false (more (Appl (codes "a") false none none) none) none) none) none) ∷ []) (shown_by true Annotated) 1 ≡ codes
+    (more (Appl (codes "f") false (more (Appl (codes "a") false none none) none) none) none) none) ∷ []) (shown_by true Annotated Plain) 1 ≡ codes
     "a\t1\n" ∷ codes "!limit 1{b}\n" ∷ codes "!limit 1\n" ∷ []
 unfolding Eval digits
 annotated_limits = refl
+
+-- a value within a bound, and one byte past it
+abbrev bounded : ℕ → List (List ℕ)
+bounded most = each_line q ((Appl (codes "f") false (more (Appl (codes "a") false none none) none) (more (Appl (codes "b") false none none) none)) ∷ [])
+    (shown_by true Annotated (Within most)) 1
+
+within_bound : bounded 4 ≡ codes "a\t1\n" ∷ codes "a{b}\t1\n" ∷ []
+unfolding Eval digits
+within_bound = refl
+
+past_bound : bounded 3 ≡ codes "a\t1\n" ∷ codes "!bytes 3{b}\n" ∷ []
+unfolding Eval digits
+past_bound = refl
 
 -- [f(f(3))]
 row_15 : broken_by_terms q (Items (more (Appl (codes "f") false (more (Appl (codes "f") false (more (Int (ℤ.pos 3) none) none) none) none) none) none)

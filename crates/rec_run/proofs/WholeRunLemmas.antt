@@ -67,21 +67,3 @@ after_spec shown n verdict.Long = refl
 after_spec shown n (verdict.Grammar at) = refl
 after_spec shown n (verdict.Breaks f) = refl
 after_spec shown n (verdict.Good y) = refl
-
--- a specification without given terms
-pub read_alone : (w : Store) (known : Option (List ℕ)) (first : Reading Sourced) (r : Reading Job) → r ≡ job_alone_of first
-    → IfSome known (λ bytes. IsSpecRead bytes first) → IfSome (both_texts known (Some None)) (λ texts. IsReadFrom w texts r)
-read_alone w known first r e h = subst (λ z. IfSome (both_texts known (Some None)) (λ texts. IsReadFrom w texts z)) (sym e) (of known first h)
-  where
-    of : (known : Option (List ℕ)) (first : Reading Sourced) → IfSome known (λ bytes. IsSpecRead bytes first)
-        → IfSome (both_texts known (Some None)) (λ texts. IsReadFrom w texts (job_alone_of first))
-    of None first h = tt
-    of (Some bytes) (Refused r) (v, h, is) = λ shown n. (v, h, after_refusal v r None shown n is)
-    of (Some bytes) (Good checked) (v, h, is) = λ shown n. (verdict.Good checked.spec, subst (SpecVerdict bytes) is h, refl)
-
-pub ready_alone : (w : Store) (first : Reading Sourced) (r : Reading Job) → r ≡ job_alone_of first → IsReady w r
-ready_alone w first r e = subst (IsReady w) (sym e) (of first)
-  where
-    of : (first : Reading Sourced) → IsReady w (job_alone_of first)
-    of (Refused r) = tt
-    of (Good checked) = λ x is. absurd (cc is)

@@ -5,4 +5,6 @@ pub mod Laws
 pub mod Output
 pub mod Reading
 pub mod RefusedItems
+pub mod Reports
 pub mod Run
+pub mod InputTerms

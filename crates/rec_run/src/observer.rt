@@ -1,5 +1,5 @@
-//! Who is told of the evaluations of a run. Whatever it does, it changes nothing of the run, so no
-//! clause speaks of it.
+//! Observers of a run: progress, statistics and reports. A watch and a profiler cannot change the
+//! run, so no clause mentions them. The report of a run has a clause of its own (`told`).
 
 ghost use Rattle.std.specs.Prelude.{◌≡◌};
 ghost use Rattle.rec_engine.specs.Engine.{SameEngine};
@@ -9,15 +9,15 @@ use rec_sorts::Checked;
 use rx_term::TermBank;
 use std::alloc::Global;
 
-/// Who is told what the evaluations of a run took.
+/// Receives statistics of a run. An implementation cannot change the run.
 pub trait Profiler {
-    /// Whether it is to be counted how often each rule is used. Without memory for it the run goes
-    /// on, and nothing is counted.
+    /// Returns whether the uses of each rule are counted. If there is no memory for the counters,
+    /// the run continues without them.
     fn counts_rules(&self) -> bool;
 
-    /// Comes once, behind the last line that is written, also where a fault ended the run, and not
-    /// at all where nothing could be evaluated: how often each rule of the specification was used,
-    /// in their order, or nothing where that was not counted; and what was done.
+    /// Called once, after the last line or after the error that ended the run. Not called if no
+    /// evaluation could start. `counts` has the number of uses of each rule, in the order of the
+    /// specification; it is empty if rules were not counted. `tally` has the totals of the run.
     fn conclude(&mut self, checked: &Checked, counts: &[RuleCount], tally: Tally);
 }
 
@@ -29,26 +29,29 @@ impl Profiler for Unwatched {
     fn conclude(&mut self, _checked: &Checked, _counts: &[RuleCount], _tally: Tally) {}
 }
 
-/// Who is told of the evaluations of a run.
+/// The observers of a run.
 #[derive(Drop)]
-pub struct Observer<V, P> {
-    /// Who is told of them while they go on: a `Watch`.
+pub struct Observer<V, P, S> {
+    /// A `Watch`, which receives progress during an evaluation.
     pub watch: V,
-    /// Who is told what they took: a `Profiler`.
+    /// A `Profiler`, which receives statistics at the end of the run.
     pub profiler: P,
+    /// A `Reporter`, which receives each value.
+    pub reporter: S,
 }
 
-/// Nobody is told.
-pub(crate) fn nobody() -> Observer<Unwatched, Unwatched> {
+/// Returns an observer that does nothing.
+pub fn unobserved() -> Observer<Unwatched, Unwatched, Unwatched> {
     Observer {
         watch: Unwatched,
         profiler: Unwatched,
+        reporter: Unwatched,
     }
 }
 
-impl<V, P: Profiler> Observer<V, P> {
-    /// Counts from now on how often each rule of an engine is used, where that is asked for.
-    /// Without memory for it nothing is counted.
+impl<V, P: Profiler, S> Observer<V, P, S> {
+    /// Counts the uses of each rule of `engine` from now on, if the profiler needs them. If there
+    /// is no memory for the counters, nothing is counted.
     pub fn begin<B: TermBank>(&self, alloc: Global, engine: &mut Engine<B>)
         ensures same { SameEngine engine.old engine.new }
         ensures bank { engine.new.bank ≡ engine.old.bank }
@@ -58,8 +61,10 @@ impl<V, P: Profiler> Observer<V, P> {
         }
     }
 
-    /// Tells what the evaluations of an engine took.
-    pub fn conclude<B: TermBank>(&mut self, engine: &Engine<B>) {
+    /// Passes the statistics of the evaluations of `engine` to the profiler.
+    pub fn conclude<B: TermBank>(&mut self, engine: &Engine<B>)
+        ensures { self.new.reporter ≡ self.old.reporter }
+    {
         let counts = engine.rule_counts();
         self.profiler
             .conclude(engine.checked(), counts, engine.tally());

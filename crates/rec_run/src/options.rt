@@ -1,19 +1,21 @@
-//! What a run may use, what its limit lines say, and how many calls may wait.
+//! Limits and output options of a run.
 
 ghost use Rattle.std.specs.Prelude.{◌≤◌, ◌^◌};
 
-/// What a run may use.
+use std::alloc::Global;
+
+/// Limits of a run, and whether steps are printed.
 #[derive(Clone, Copy, Debug, Drop)]
 pub struct RunOptions {
-    /// The most steps that a term may take, 0 to 10^18.
+    /// The step limit of each term, 0 to 10^18.
     pub steps: u64,
-    /// The most cells of the bank, 1 to 2^30.
+    /// The capacity of the store in cells, 1 to 2^30.
     pub cells: u32,
-    /// The most entries of the memo, 0 to 2^20.
+    /// The capacity of the memo table in results, 0 to 2^20; 0 turns it off.
     pub memo: u32,
-    /// How many new cells there may be between two reclaims, 1 to 2^30.
+    /// Garbage is collected at the latest after this number of new cells, 1 to 2^30.
     pub reclaim: u32,
-    /// Whether each value's line has the steps that were spent.
+    /// Whether a tab and the number of steps follow each value.
     pub count: bool,
     ghost steps_in_range: { steps ≤ 10 ^ 18 },
     ghost cells_in_range: { (1 ≤ cells) × (cells ≤ 2 ^ 30) },
@@ -21,22 +23,43 @@ pub struct RunOptions {
     ghost reclaim_in_range: { (1 ≤ reclaim) × (reclaim ≤ 2 ^ 30) },
 }
 
-/// What a limit line says of the given term that is over the limit.
+/// The end of the limit line of an input term, after `!limit N` or `!bytes N`.
 #[derive(Clone, Copy, Debug, Drop, PartialEq, Eq)]
 pub enum LimitLines {
     /// Nothing: `!limit 50`.
     Bare,
-    /// Its annotations: `!limit 50{id(2)}`.
+    /// The annotations of the input term: `!limit 50{id(2)}`.
     Annotated,
 }
 
-/// All that a run is told besides its texts.
+/// The form of values.
+#[derive(Clone, Copy, Debug, Drop, PartialEq, Eq)]
+pub enum ValueForm {
+    /// The text of the value, of any length.
+    Plain,
+    /// The text of the value if it has at most this number of bytes, or else a limit line:
+    /// `!bytes 100`.
+    Within(u64),
+}
+
+/// All settings of a run.
 #[derive(Clone, Copy, Debug, Drop)]
 pub struct RunSettings {
-    /// What it may use.
+    /// Limits, and whether steps are printed.
     pub options: RunOptions,
-    /// What its limit lines say.
+    /// The form of limit lines of input terms.
     pub limits: LimitLines,
-    /// How many calls may wait at once; without a number as many as there is memory for.
+    /// The form of values.
+    pub form: ValueForm,
+    /// The call-depth limit in frames. With `None`, only memory limits the depth.
     pub depth: Option<u32>,
+}
+
+/// The allocator and the settings of a run.
+#[derive(Clone, Copy, Drop)]
+pub(crate) struct Run {
+    /// The allocator.
+    pub(crate) alloc: Global,
+    /// The settings of the run.
+    pub(crate) settings: RunSettings,
 }

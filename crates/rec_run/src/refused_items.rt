@@ -1,4 +1,4 @@
-//! Which given term is refused, by a rule that has no place.
+//! Finds the input term that violates a rule, since errors `T1` to `T6` have no offset.
 
 ghost use Rattle.std.specs.Prelude.{◌≡◌, None, IfOk};
 ghost use Rattle.rx_text.specs.Verdict.{Verdict, IsVerdict};
@@ -15,7 +15,7 @@ use rx_run::{MOST_CELLS, Reading, RunFault, Source, empty_bank, parse};
 use rx_term::TermBank;
 use std::alloc::{AllocError, Global};
 
-/// The verdict on a copy of a text.
+/// Parses and checks a copy of the text of a specification.
 fn judge_copy(alloc: Global, text: &[u8]) -> Result<Reading<Checked>, AllocError>
     ensures { IfOk result (IsSpecRead text.now) }
 {
@@ -23,8 +23,11 @@ fn judge_copy(alloc: Global, text: &[u8]) -> Result<Reading<Checked>, AllocError
     judge(alloc, copy)
 }
 
-/// The first given term that alone breaks the rule by which a text of terms is refused, by how many
-/// stand before it. None where there is no such rule, or it asks for a list.
+/// Returns the index, from 0, of the first input term that violates on its own the rule by which
+/// `terms` is rejected.
+///
+/// Returns `None` if there is no such term: `spec` is rejected, `terms` is accepted or malformed,
+/// or the violated rule requires a list (`T1`).
 pub fn refused_term(alloc: Global, spec: &[u8], terms: &[u8]) -> Result<Option<usize>, RunFault>
     ensures first { IfOk result (λ found. (y : Spec) (v : Verdict) → SpecVerdict spec.now (Good y)
         → IsVerdict terms.now v → found ≡ term_in y v) }
@@ -37,7 +40,7 @@ pub fn refused_term(alloc: Global, spec: &[u8], terms: &[u8]) -> Result<Option<u
     }
 }
 
-/// The same for a good specification.
+/// Finds the input term that violates a rule, for an accepted specification.
 fn refused_term_for(
     alloc: Global,
     checked: &Checked,
@@ -52,7 +55,7 @@ fn refused_term_for(
     }
 }
 
-/// The same over a bank.
+/// Finds the input term that violates a rule, and makes the terms in `bank`.
 fn refused_term_over<B: TermBank + Drop>(
     alloc: Global,
     checked: &Checked,

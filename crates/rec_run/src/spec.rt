@@ -1,13 +1,10 @@
-//! Runs of a specification, with given terms or none.
+//! Runs of a specification, with or without input terms.
 
-pub(crate) mod alone;
-pub(crate) mod banks;
-pub(crate) mod beside;
 pub(crate) mod due;
 pub(crate) mod evaluated;
 pub(crate) mod evaluation;
+pub(crate) mod given;
+pub(crate) mod input_terms;
 pub(crate) mod lines;
 pub(crate) mod outcome;
-pub(crate) mod placed;
 pub(crate) mod reading;
-pub(crate) mod runs;

@@ -1,7 +1,7 @@
 -- What holds of answers, and of what is due for requests.
 use Rattle.std.proofs.Common.{◌≡◌, ◌≢◌, ℕ, suc, ◌+◌, ◌-◌, ◌<◌, ◌^◌, Bool, true, false, List, [], ◌∷◌, ◌++◌, Option, Some}
-use Rattle.std.proofs.Common.{None, inl, inr, refl, sym, ap, ap₂, subst, ◌∙◌, append_assoc, get_or, length, arith}
-use Rattle.std.specs.Prelude.{◌⊎◌, IsTrue, flat_map, codes, decimal, nat_lt, not}
+use Rattle.std.proofs.Common.{None, cond, inl, inr, refl, sym, ap, ap₂, subst, ◌∙◌, append_assoc, get_or, length, arith}
+use Rattle.std.specs.Prelude.{◌⊎◌, IsTrue, codes, decimal, nat_le, nat_lt, not}
 use Rattle.std.specs.List.{list_all, list_any}
 use Rattle.std.proofs.lemmas.Bool.{and_parts}
 use Rattle.rx_term.specs.Name.{plain_name, starts_name, continues_name}
@@ -19,7 +19,9 @@ use Rattle.rec_sorts.specs.TermRules.{is_ill_sorted, is_no_application, is_undec
 use Rattle.rec_engine.proofs.ValueTreeLemmas.{IsApplied, value_is_applied}
 use Rattle.rx_run.specs.Bytes.{newlines}
 use Rattle.rec_run.specs.GivenTerms.{given_text}
-use Rattle.rec_run.specs.Output.{bare, line}
+use Rattle.rec_run.specs.Output.{Whole, Longer, line, printed, shown_by, value_text}
+use Rattle.rec_run.specs.declared.options.LimitLines.TheVariants.{Bare}
+use Rattle.rec_run.specs.declared.options.ValueForm.TheVariants.{Plain, Within}
 use Rattle.rx_run.specs.Due.{steps_text}
 use Rattle.rec_run.specs.Reading.{evaluation_text}
 use Rattle.rec_run.proofs.GivenLemmas.{annotations_trees, notes-newlines}
@@ -30,74 +32,60 @@ use Rattle.rec_serve.specs.Conversation.{IsAnswer, IsDue, answer_after, answer_b
 use Rattle.rec_serve.specs.Laws.{NoWant, OneAnswer, OneLine, SplitLaw}
 use Rattle.rec_serve.specs.Replies.{IsWant}
 use Rattle.rec_serve.proofs.RequestLemmas.{requests-divided}
+use Rattle.rec_run.specs.declared.options.ValueForm.{ValueForm}
 
 -- ---- one answer
 
-same_answer : (y : Spec) (counted : Bool) (n : ℕ) (r a b : List ℕ) → IsAnswer y counted n r a → IsAnswer y counted n r b → a ≡ b
-same_answer y counted n r a b (v, h, e) (w, k, f) =
+same_answer : (y : Spec) (counted : Bool) (form : ValueForm) (n : ℕ) (r a b : List ℕ) → IsAnswer y counted form n r a → IsAnswer y counted form n r b → a ≡ b
+same_answer y counted form n r a b (v, h, e) (w, k, f) =
     let one = one_verdict r in
-    e ∙ ap (answer_after y counted n) (one.2 v h ∙ sym (one.2 w k)) ∙ sym f
+    e ∙ ap (answer_after y counted form n) (one.2 v h ∙ sym (one.2 w k)) ∙ sym f
 
 pub one_answer : OneAnswer
-one_answer y counted n r =
+one_answer y counted form n r =
     let one = one_verdict r in
-    let a = answer_after y counted n one.0 in
-    (a, (one.0, one.1, refl), λ b h. same_answer y counted n r b a h (one.0, one.1, refl))
+    let a = answer_after y counted form n one.0 in
+    (a, (one.0, one.1, refl), λ b h. same_answer y counted form n r b a h (one.0, one.1, refl))
 
 -- ---- one line
 
 -- the line of a given term is its text and a line end
-pub line-text : (y : Spec) (counted : Bool) (n : ℕ) (u : Tree)
-    → line y (bare counted) n (record { term = term_of u; notes = annotations u }) ≡ given_text y (bare counted) n u ++ codes "\n"
-line-text y counted n u = by (Eval y n [] (term_of u))
+pub line-text : (y : Spec) (counted : Bool) (form : ValueForm) (n : ℕ) (u : Tree)
+    → line y (shown_by counted Bare form) n (record { term = term_of u; notes = annotations u }) ≡ given_text y (shown_by counted Bare form) n u ++ codes "\n"
+line-text y counted form n u = by (Eval y n [] (term_of u))
   where
     by : (o : Outcome Tree) → ◌≡◌ {A = List ℕ} (elim o [
-      | Done v left ↦ canon (annotated v (annotations u)) ++ steps_text counted (n - left) ++ codes "\n"
+      | Done v left ↦ value_text Bare (annotations u) (steps_text counted (n - left)) (printed form (canon (annotated v (annotations u)))) ++ codes "\n"
       | Over ↦ codes "!limit " ++ decimal n ++ codes "\n"
-    ]) (evaluation_text (annotations u) (bare counted) n o ++ codes "\n")
+    ]) (evaluation_text (annotations u) (shown_by counted Bare form) n o ++ codes "\n")
     by (Done v left) = refl
     by Over = refl
-
-passed_below : (k : ℕ) (bs : List Bool) (m : ℕ) → first_passed k bs ≡ Some m → m < k + length bs
-passed_below k [] m e = absurd (cc e)
-passed_below k (true ∷ bs) m e = let same : k ≡ m = cc e in omega (arith, same)
-passed_below k (false ∷ bs) m e = let h = passed_below (suc k) bs m e in omega (arith, h)
-
--- the number of a rule is small
-rule_below : (y : Spec) (ts : List Tree) (m : ℕ) → broken_by_elements y ts ≡ Some m → m < 7
-rule_below y ts m e =
-    let all = flat_map nodes ts in
-    let inner = flat_map (λ (t : Tree). nodes_all (arguments t)) ts in
-    passed_below 2 (list_any is_no_application all ∷ list_any is_annotated inner ∷ list_any (is_undeclared y) all ∷ list_any (is_ill_filled y)
-    all ∷ list_any (is_ill_sorted y) all ∷ []) m e
 
 record InLine (a : List ℕ) : Type 0 where
   text : List ℕ
   is : a ≡ text ++ codes "\n"
   none : newlines text ≡ 0
 
-tree_line : (y : Spec) (counted : Bool) (n : ℕ) (r : List ℕ) (t : Tree) → n < 2 ^ 64 → IsTrue (list_all (λ b. nat_lt b 256) r) → Spells r t
-    → (o : Option ℕ) → broken_by_elements y (t ∷ []) ≡ o → InLine (answer_by y counted n t o)
-tree_line y counted n r t few low spelt (Some m) e =
-    let k = rule_below y (t ∷ []) m e in
-    let small : m < 2 ^ 64 = omega (arith, k) in
-    record { text = codes "!term T" ++ decimal m; is = refl; none = no_ends (codes "!term T") (decimal m) refl (decimal-newlines m small) }
-tree_line y counted n r t few low spelt None e =
+tree_line : (y : Spec) (counted : Bool) (form : ValueForm) (n : ℕ) (r : List ℕ) (t : Tree) → n < 2 ^ 64 → IsTrue (list_all (λ b. nat_lt b 256) r) → Spells r t
+    → (o : Option ℕ) → broken_by_elements y (t ∷ []) ≡ o → InLine (answer_by y counted form n t o)
+tree_line y counted form n r t few low spelt (Some m) e =
+    record { text = codes "!term T" ++ decimal m; is = refl; none = no_ends (codes "!term T") (decimal m) refl (decimal-newlines m) }
+tree_line y counted form n r t few low spelt None e =
     record {
-      text = given_text y (bare counted) n t;
-      is = line-text y counted n t;
-      none = given_text-newlines y (bare counted) n few t (notes-newlines (annotations t) (annotations_trees t (spelt_valid r t low spelt)));
+      text = given_text y (shown_by counted Bare form) n t;
+      is = line-text y counted form n t;
+      none = given_text-newlines y (shown_by counted Bare form) n few t (notes-newlines (annotations t) (annotations_trees t (spelt_valid r t low spelt)));
     }
 
-after_line : (y : Spec) (counted : Bool) (n : ℕ) (r : List ℕ) → n < 2 ^ 64 → IsTrue (list_all (λ b. nat_lt b 256) r) → (v : Verdict) → IsVerdict r v
-    → InLine (answer_after y counted n v)
-after_line y counted n r few low TooLong h = record { text = codes "!term L1"; is = refl; none = refl }
-after_line y counted n r few low (Outside at) h = record { text = codes "!term A"; is = refl; none = refl }
-after_line y counted n r few low (Spelt t) h = tree_line y counted n r t few low h.1 (broken_by_elements y (t ∷ [])) refl
+after_line : (y : Spec) (counted : Bool) (form : ValueForm) (n : ℕ) (r : List ℕ) → n < 2 ^ 64 → IsTrue (list_all (λ b. nat_lt b 256) r) → (v : Verdict) → IsVerdict r v
+    → InLine (answer_after y counted form n v)
+after_line y counted form n r few low TooLong h = record { text = codes "!term L1"; is = refl; none = refl }
+after_line y counted form n r few low (Outside at) h = record { text = codes "!term A"; is = refl; none = refl }
+after_line y counted form n r few low (Spelt t) h = tree_line y counted form n r t few low h.1 (broken_by_elements y (t ∷ [])) refl
 
 pub one_line : OneLine
-one_line y counted n r a few low (v, h, e) =
-    let k = after_line y counted n r few low v h in
+one_line y counted form n r a few low (v, h, e) =
+    let k = after_line y counted form n r few low v h in
     (k.text, e ∙ k.is, k.none)
 
 -- ---- no want
@@ -105,20 +93,25 @@ one_line y counted n r a few low (v, h, e) =
 -- a want's first bytes are `!m`, `!c` or `!d`
 record BeginsWant (a : List ℕ) : Type 0 where
   first : get_or a 0 0 ≡ 33
+  least : 98 < get_or a 1 0
   second : (get_or a 1 0 < 101) ⊎ (get_or a 1 0 ≡ 109)
 
 begins_want : (depth : Option ℕ) (a : List ℕ) → IsWant depth a → BeginsWant a
-begins_want depth a (inl e) = record { first = ap (λ z. get_or z 0 0) e; second = inr (ap (λ z. get_or z 1 0) e) }
+begins_want depth a (inl e) = let k : get_or a 1 0 ≡ 109 = ap (λ z. get_or z 1 0) e in
+    record { first = ap (λ z. get_or z 0 0) e; least = omega (arith, k); second = inr k }
 begins_want depth a (inr (inl e)) = let k : get_or a 1 0 ≡ 99 = ap (λ z. get_or z 1 0) e in
-    record { first = ap (λ z. get_or z 0 0) e; second = inl (omega (arith, k)) }
+    record { first = ap (λ z. get_or z 0 0) e; least = omega (arith, k); second = inl (omega (arith, k)) }
 begins_want None a (inr (inr e)) = absurd e
 begins_want (Some d) a (inr (inr e)) = let k : get_or a 1 0 ≡ 100 = ap (λ z. get_or z 1 0) e in
-    record { first = ap (λ z. get_or z 0 0) e; second = inl (omega (arith, k)) }
+    record { first = ap (λ z. get_or z 0 0) e; least = omega (arith, k); second = inl (omega (arith, k)) }
 
 -- another second byte
 other_second : (depth : Option ℕ) (a : List ℕ) → (get_or a 1 0 ≡ 116) ⊎ (get_or a 1 0 ≡ 108) → IsWant depth a → ⊥
 other_second depth a (inl e) w = elim (begins_want depth a w).second [ inl k ↦ absurd (omega (arith, e, k)) | inr k ↦ absurd (omega (arith, e, k)) ]
 other_second depth a (inr e) w = elim (begins_want depth a w).second [ inl k ↦ absurd (omega (arith, e, k)) | inr k ↦ absurd (omega (arith, e, k)) ]
+
+lower_second : (depth : Option ℕ) (a : List ℕ) → get_or a 1 0 ≡ 98 → IsWant depth a → ⊥
+lower_second depth a e w = let k = (begins_want depth a w).least in absurd (omega (arith, e, k))
 
 other_first : (depth : Option ℕ) (a : List ℕ) → get_or a 0 0 ≢ 33 → IsWant depth a → ⊥
 other_first depth a h w = h (begins_want depth a w).first
@@ -139,24 +132,39 @@ value_first (Int z anns) notes rest h e = absurd h
 value_first (Items ts anns) notes rest h e = absurd h
 value_first (Hole t anns) notes rest h e = absurd h
 
-line_wants : (y : Spec) (counted : Bool) (n : ℕ) (depth : Option ℕ) (u : Tree) (o : Outcome Tree) → Eval y n [] (term_of u) ≡ o
-    → IsWant depth (evaluation_text (annotations u) (bare counted) n o ++ codes "\n") → ⊥
-line_wants y counted n depth u (Done v left) e w =
-    other_first depth _ (λ k. value_first v (annotations u) (steps_text counted (n - left) ++ codes "\n") (value_is_applied y n (term_of u) v left e)
-    (ap (λ z. get_or z 0 0) (sym (append_assoc (canon (annotated v (annotations u))) (steps_text counted (n - left)) (codes "\n"))) ∙ k)) w
-line_wants y counted n depth u Over e w = other_second depth _ (inr refl) w
+-- the line of a value, in each form
+whole_wants : (depth : Option ℕ) (v : Tree) (notes : Trees) (steps : List ℕ) → IsApplied v
+    → IsWant depth ((canon (annotated v notes) ++ steps) ++ codes "\n") → ⊥
+whole_wants depth v notes steps a w =
+    other_first depth _ (λ k. value_first v notes (steps ++ codes "\n") a
+    (ap (λ z. get_or z 0 0) (sym (append_assoc (canon (annotated v notes)) steps (codes "\n"))) ∙ k)) w
 
-tree_wants : (y : Spec) (counted : Bool) (n : ℕ) (depth : Option ℕ) (t : Tree) (o : Option ℕ) → IsWant depth (answer_by y counted n t o) → ⊥
-tree_wants y counted n depth t (Some m) w = other_second depth _ (inl refl) w
-tree_wants y counted n depth t None w = line_wants y counted n depth t (Eval y n [] (term_of t)) refl (subst (IsWant depth) (line-text y counted n t) w)
+value_wants : (depth : Option ℕ) (v : Tree) (notes : Trees) (steps : List ℕ) (form : ValueForm) → IsApplied v
+    → IsWant depth (value_text Bare notes steps (printed form (canon (annotated v notes))) ++ codes "\n") → ⊥
+value_wants depth v notes steps Plain a w = whole_wants depth v notes steps a w
+value_wants depth v notes steps (Within most) a w = by (nat_le (length (canon (annotated v notes))) most) w
+  where
+    by : (b : Bool) → IsWant depth (value_text Bare notes steps (cond b (Whole (canon (annotated v notes))) (Longer most)) ++ codes "\n") → ⊥
+    by true w = whole_wants depth v notes steps a w
+    by false w = lower_second depth _ refl w
 
-after_wants : (y : Spec) (counted : Bool) (n : ℕ) (depth : Option ℕ) (v : Verdict) → IsWant depth (answer_after y counted n v) → ⊥
-after_wants y counted n depth TooLong w = other_second depth _ (inl refl) w
-after_wants y counted n depth (Outside at) w = other_second depth _ (inl refl) w
-after_wants y counted n depth (Spelt t) w = tree_wants y counted n depth t (broken_by_elements y (t ∷ [])) w
+line_wants : (y : Spec) (counted : Bool) (form : ValueForm) (n : ℕ) (depth : Option ℕ) (u : Tree) (o : Outcome Tree) → Eval y n [] (term_of u) ≡ o
+    → IsWant depth (evaluation_text (annotations u) (shown_by counted Bare form) n o ++ codes "\n") → ⊥
+line_wants y counted form n depth u (Done v left) e w =
+    value_wants depth v (annotations u) (steps_text counted (n - left)) form (value_is_applied y n (term_of u) v left e) w
+line_wants y counted form n depth u Over e w = other_second depth _ (inr refl) w
+
+tree_wants : (y : Spec) (counted : Bool) (form : ValueForm) (n : ℕ) (depth : Option ℕ) (t : Tree) (o : Option ℕ) → IsWant depth (answer_by y counted form n t o) → ⊥
+tree_wants y counted form n depth t (Some m) w = other_second depth _ (inl refl) w
+tree_wants y counted form n depth t None w = line_wants y counted form n depth t (Eval y n [] (term_of t)) refl (subst (IsWant depth) (line-text y counted form n t) w)
+
+after_wants : (y : Spec) (counted : Bool) (form : ValueForm) (n : ℕ) (depth : Option ℕ) (v : Verdict) → IsWant depth (answer_after y counted form n v) → ⊥
+after_wants y counted form n depth TooLong w = other_second depth _ (inl refl) w
+after_wants y counted form n depth (Outside at) w = other_second depth _ (inl refl) w
+after_wants y counted form n depth (Spelt t) w = tree_wants y counted form n depth t (broken_by_elements y (t ∷ [])) w
 
 pub no_want : NoWant
-no_want y counted n depth r a (v, h, e) w = after_wants y counted n depth v (subst (IsWant depth) e w)
+no_want y counted form n depth r a (v, h, e) w = after_wants y counted form n depth v (subst (IsWant depth) e w)
 
 -- ---- what is due
 
@@ -172,26 +180,26 @@ pub joined-append : (xs ys : List (List ℕ)) → joined (xs ++ ys) ≡ joined x
 joined-append [] ys = refl
 joined-append (x ∷ xs) ys = ap (λ z. x ++ z) (joined-append xs ys) ∙ sym (append_assoc x (joined xs) (joined ys))
 
-due_both : (y : Spec) (counted : Bool) (n : ℕ) (rs ss : List (List ℕ)) (a b : List ℕ) → IsDue y counted n rs a → IsDue y counted n ss b
-    → IsDue y counted n (rs ++ ss) (a ++ b)
-due_both y counted n rs ss a b h k = record {
+due_both : (y : Spec) (counted : Bool) (form : ValueForm) (n : ℕ) (rs ss : List (List ℕ)) (a b : List ℕ) → IsDue y counted form n rs a → IsDue y counted form n ss b
+    → IsDue y counted form n (rs ++ ss) (a ++ b)
+due_both y counted form n rs ss a b h k = record {
   answers = h.answers ++ k.answers;
-  each = pairwise_both (IsAnswer y counted n) rs ss h.answers k.answers h.each k.each;
+  each = pairwise_both (IsAnswer y counted form n) rs ss h.answers k.answers h.each k.each;
   all = ap₂ (λ x z. x ++ z) h.all k.all ∙ sym (joined-append h.answers k.answers);
 }
 
-same_answers : (y : Spec) (counted : Bool) (n : ℕ) (rs xs ys : List (List ℕ)) → Pairwise (IsAnswer y counted n) rs xs
-    → Pairwise (IsAnswer y counted n) rs ys → xs ≡ ys
-same_answers y counted n [] [] [] h k = refl
-same_answers y counted n [] [] (b ∷ ys) h k = absurd k
-same_answers y counted n [] (a ∷ xs) ys h k = absurd h
-same_answers y counted n (r ∷ rs) [] ys h k = absurd h
-same_answers y counted n (r ∷ rs) (a ∷ xs) [] h k = absurd k
-same_answers y counted n (r ∷ rs) (a ∷ xs) (b ∷ ys) h k = ap₂ (λ z zs. z ∷ zs) (same_answer y counted n r a b h.0 k.0)
-    (same_answers y counted n rs xs ys h.1 k.1)
+same_answers : (y : Spec) (counted : Bool) (form : ValueForm) (n : ℕ) (rs xs ys : List (List ℕ)) → Pairwise (IsAnswer y counted form n) rs xs
+    → Pairwise (IsAnswer y counted form n) rs ys → xs ≡ ys
+same_answers y counted form n [] [] [] h k = refl
+same_answers y counted form n [] [] (b ∷ ys) h k = absurd k
+same_answers y counted form n [] (a ∷ xs) ys h k = absurd h
+same_answers y counted form n (r ∷ rs) [] ys h k = absurd h
+same_answers y counted form n (r ∷ rs) (a ∷ xs) [] h k = absurd k
+same_answers y counted form n (r ∷ rs) (a ∷ xs) (b ∷ ys) h k = ap₂ (λ z zs. z ∷ zs) (same_answer y counted form n r a b h.0 k.0)
+    (same_answers y counted form n rs xs ys h.1 k.1)
 
-one_due : (y : Spec) (counted : Bool) (n : ℕ) (rs : List (List ℕ)) (a b : List ℕ) → IsDue y counted n rs a → IsDue y counted n rs b → a ≡ b
-one_due y counted n rs a b h k = h.all ∙ ap joined (same_answers y counted n rs h.answers k.answers h.each k.each) ∙ sym k.all
+one_due : (y : Spec) (counted : Bool) (form : ValueForm) (n : ℕ) (rs : List (List ℕ)) (a b : List ℕ) → IsDue y counted form n rs a → IsDue y counted form n rs b → a ≡ b
+one_due y counted form n rs a b h k = h.all ∙ ap joined (same_answers y counted form n rs h.answers k.answers h.each k.each) ∙ sym k.all
 
 pub split_law_lem : SplitLaw
 split_law_lem = record {

@@ -1,32 +1,29 @@
 -- Replies one after the other.
-use Rattle.std.proofs.Common.{◌≡◌, ℕ, ◌+◌, Bool, List, [], ◌∷◌, ◌++◌, Option, Some, None, IfSome}
+use Rattle.std.proofs.Common.{◌≡◌, ℕ, ◌+◌, List, [], ◌∷◌, ◌++◌, Option, Some, None, IfErr, IfSome, OnOk, Result, Ok, Err}
 use Rattle.std.proofs.Common.{inl, inr, refl, sym, ap, subst, ◌∙◌, append-nil, length, arith}
 use Rattle.std.specs.Prelude.{MatchOption}
 use Rattle.std.proofs.lemmas.List.{length-append}
 use Rattle.std.specs.Io.KnownBytes.{Appends, Keeps}
 use Rattle.rx_text.specs.Written.{AppendsFront}
 use Rattle.rx_text.proofs.AppendingLemmas.{appends_both, appends_none, appends_same, front_after}
-use Rattle.rec_syntax.specs.Syntax.{Spec}
 use Rattle.rec_sorts.specs.Numbering.{Pairwise}
 use Rattle.rec_serve.specs.Conversation.{joined, requests}
 use Rattle.rec_serve.specs.Inner.Reading.{IsRead, Splits}
 use Rattle.rec_serve.specs.declared.request.Request.{Request}
-use Rattle.rec_serve.specs.Replies.{BreaksOff, Converses, IsPart, IsReply, answered_before}
-use Rattle.rec_serve.specs.Steps.{EndsStep, Replies, StopsReply, StopsStep, stopped_after}
+use Rattle.rec_serve.specs.Replies.{BreaksOffBy, ConversesBy, IsPart, answered_before}
+use Rattle.rec_serve.specs.Inner.Steps.{EndsStep, Replies, StopsReply, StopsStep, stopped_after}
 use Rattle.rec_serve.specs.declared.ending.ServeFault.{ServeFault}
 use Rattle.rec_serve.specs.declared.ending.ServeFault.TheVariants as serve
-use Rattle.rec_serve.specs.declared.read_ahead.StreamFault.{StreamFault}
-use Rattle.rec_serve.specs.declared.read_ahead.StreamFault.TheVariants.{Read, Write}
 use Rattle.rec_serve.proofs.AnswerLemmas.{joined-append, pairwise_both}
 use Rattle.rec_serve.proofs.KeptLemmas.{splits_both}
 
-module _ (y : Spec) (counted : Bool) (n : ℕ) (depth : Option ℕ) where
+module _ (Reply : List ℕ → List ℕ → Type 0) where
   -- so many requests were replied to
   pub record Replied (old left was now : Option (List ℕ)) (count : ℕ) : Type 0 where
     pub done : List (List ℕ)
     pub replies : List (List ℕ)
     pub split : Splits old left done
-    pub each : Pairwise (IsReply y counted n depth) done replies
+    pub each : Pairwise Reply done replies
     pub few : count ≡ length done
     pub written : Appends was now (joined replies)
 
@@ -36,7 +33,7 @@ module _ (y : Spec) (counted : Bool) (n : ℕ) (depth : Option ℕ) where
 
   -- one more
   pub replied_more : (old mid left was between now : Option (List ℕ)) (count : ℕ) → Replied old mid was between count
-      → Replies y counted n depth mid left between now → Replied old left was now (count + 1)
+      → Replies Reply mid left between now → Replied old left was now (count + 1)
   replied_more old mid left was between now count h k =
       let size = length-append h.done (k.line ∷ []) in
       let one : joined (h.replies ++ k.text ∷ []) ≡ joined h.replies ++ k.text =
@@ -46,14 +43,14 @@ module _ (y : Spec) (counted : Bool) (n : ℕ) (depth : Option ℕ) where
         done = h.done ++ k.line ∷ [];
         replies = h.replies ++ k.text ∷ [];
         split = splits_both old mid left h.done (k.line ∷ []) h.split k.split;
-        each = pairwise_both (IsReply y counted n depth) h.done (k.line ∷ []) h.replies (k.text ∷ []) h.each (k.is, tt);
+        each = pairwise_both Reply h.done (k.line ∷ []) h.replies (k.text ∷ []) h.each (k.is, tt);
         few = omega (arith, few, size);
         written = subst (Appends was now) (sym one) (appends_both was between now (joined h.replies) k.text h.written k.written);
       }
 
   -- all
   pub converses : (old left remaining was between now : Option (List ℕ)) (count : ℕ) → Replied old left was between count
-      → EndsStep left remaining between now → IfSome old (λ bytes. Converses y counted n depth bytes was now)
+      → EndsStep left remaining between now → IfSome old (λ bytes. ConversesBy Reply bytes was now)
   converses None left remaining was between now count h e = tt
   converses (Some bytes) None remaining was between now count h e = absurd (h.split)
   converses (Some bytes) (Some rest) remaining was between now count h e =
@@ -61,11 +58,11 @@ module _ (y : Spec) (counted : Bool) (n : ℕ) (depth : Option ℕ) where
       let same : joined h.replies ++ [] ≡ joined h.replies = append-nil (joined h.replies) in
       record {
         replies = h.replies;
-        each = subst (λ rs. Pairwise (IsReply y counted n depth) rs h.replies) (sym all) h.each;
+        each = subst (λ rs. Pairwise Reply rs h.replies) (sym all) h.each;
         written = subst (Appends was now) same (appends_both was between now (joined h.replies) [] h.written (appends_none between now e.kept));
       }
 
-  nothing_begun : (fault : ServeFault) (left : List (List ℕ)) → IsPart y counted n depth fault left []
+  nothing_begun : (fault : ServeFault) (left : List (List ℕ)) → IsPart Reply fault left []
   nothing_begun serve.Memory left = refl
   nothing_begun (serve.Read a) left = refl
   nothing_begun (serve.Write a) [] = refl
@@ -73,7 +70,7 @@ module _ (y : Spec) (counted : Bool) (n : ℕ) (depth : Option ℕ) where
 
   -- nothing was read
   pub breaks_at_once : (known was : Option (List ℕ)) (fault : ServeFault) → answered_before fault ≡ 0
-      → IfSome known (λ bytes. BreaksOff y counted n depth bytes fault was was)
+      → IfSome known (λ bytes. BreaksOffBy Reply bytes fault was was)
   breaks_at_once None was fault a = tt
   breaks_at_once (Some bytes) was fault a = record {
     done = [];
@@ -90,8 +87,8 @@ module _ (y : Spec) (counted : Bool) (n : ℕ) (depth : Option ℕ) where
   -- the next request was read, and its reply written
   pub replies_one : (o : Option Request) (q : Request) (old left was mid now : Option (List ℕ)) → o ≡ Some q → (P : Type 0)
       → MatchOption o P (λ r. (line : List ℕ) × IsRead r line × Splits old left (line ∷ []))
-      → Keeps was mid → ((line : List ℕ) → IsRead q line → (text : List ℕ) × IsReply y counted n depth line text × Appends mid now text)
-      → Replies y counted n depth old left was now
+      → Keeps was mid → ((line : List ℕ) → IsRead q line → (text : List ℕ) × Reply line text × Appends mid now text)
+      → Replies Reply old left was now
   replies_one o q old left was mid now e P h k f =
       let got : (line : List ℕ) × IsRead q line × Splits old left (line ∷ []) =
       subst (λ x. MatchOption x P (λ r. (line : List ℕ) × IsRead r line × Splits old left (line ∷ []))) e h in
@@ -101,8 +98,8 @@ module _ (y : Spec) (counted : Bool) (n : ℕ) (depth : Option ℕ) where
   -- or a front of it
   pub replies_front : (o : Option Request) (q : Request) (old left was mid now : Option (List ℕ)) → o ≡ Some q → (P : Type 0)
       → MatchOption o P (λ r. (line : List ℕ) × IsRead r line × Splits old left (line ∷ []))
-      → Keeps was mid → ((line : List ℕ) → IsRead q line → (text : List ℕ) × IsReply y counted n depth line text × AppendsFront text mid now)
-      → StopsReply y counted n depth old was now
+      → Keeps was mid → ((line : List ℕ) → IsRead q line → (text : List ℕ) × Reply line text × AppendsFront text mid now)
+      → StopsReply Reply old was now
   replies_front o q old left was mid now e P h k f =
       let got : (line : List ℕ) × IsRead q line × Splits old left (line ∷ []) =
       subst (λ x. MatchOption x P (λ r. (line : List ℕ) × IsRead r line × Splits old left (line ∷ []))) e h in
@@ -119,7 +116,7 @@ module _ (y : Spec) (counted : Bool) (n : ℕ) (depth : Option ℕ) where
 
   -- a fault between replies
   pub breaks_between : (old left was between now : Option (List ℕ)) (count : ℕ) (fault : ServeFault) → answered_before fault ≡ count
-      → Replied old left was between count → Keeps between now → IfSome old (λ bytes. BreaksOff y counted n depth bytes fault was now)
+      → Replied old left was between count → Keeps between now → IfSome old (λ bytes. BreaksOffBy Reply bytes fault was now)
   breaks_between None left was between now count fault a h k = tt
   breaks_between (Some bytes) None was between now count fault a h k = absurd (h.split)
   breaks_between (Some bytes) (Some rest) was between now count fault a h k = record {
@@ -136,12 +133,12 @@ module _ (y : Spec) (counted : Bool) (n : ℕ) (depth : Option ℕ) where
 
   -- a fault within a reply
   breaks_within : (old left was between now : Option (List ℕ)) (count : ℕ) → Replied old left was between count
-      → StopsReply y counted n depth left between now → IfSome old (λ bytes. BreaksOff y counted n depth bytes (serve.Write count) was now)
+      → StopsReply Reply left between now → IfSome old (λ bytes. BreaksOffBy Reply bytes (serve.Write count) was now)
   breaks_within None left was between now count h s = tt
   breaks_within (Some bytes) None was between now count h s = absurd (h.split)
   breaks_within (Some bytes) (Some rest) was between now count h s = by s.left s.split
     where
-      by : (left : Option (List ℕ)) → Splits (Some rest) left (s.line ∷ []) → BreaksOff y counted n depth bytes (serve.Write count) was now
+      by : (left : Option (List ℕ)) → Splits (Some rest) left (s.line ∷ []) → BreaksOffBy Reply bytes (serve.Write count) was now
       by None k = absurd k
       by (Some later) k = record {
         done = h.done;
@@ -155,13 +152,65 @@ module _ (y : Spec) (counted : Bool) (n : ℕ) (depth : Option ℕ) where
         written = appends_both was between now (joined h.replies) s.written.0 h.written s.written.1;
       }
 
-  pub breaks_off : (old left was between now : Option (List ℕ)) (count : ℕ) (f : StreamFault) (fault : ServeFault) → fault ≡ stopped_after f count
-      → Replied old left was between count → StopsStep y counted n depth f left between now
-      → IfSome old (λ bytes. BreaksOff y counted n depth bytes fault was now)
-  breaks_off old left was between now count f fault e h s = subst (λ x. IfSome old (λ bytes. BreaksOff y counted n depth bytes x was now)) (sym e) (by f s)
+  pub breaks_off : (old left was between now : Option (List ℕ)) (count : ℕ) (f : ServeFault) (fault : ServeFault) → fault ≡ stopped_after f count
+      → Replied old left was between count → StopsStep Reply f left between now
+      → IfSome old (λ bytes. BreaksOffBy Reply bytes fault was now)
+  breaks_off old left was between now count f fault e h s = subst (λ x. IfSome old (λ bytes. BreaksOffBy Reply bytes x was now)) (sym e) (by f s)
     where
-      by : (f : StreamFault) → StopsStep y counted n depth f left between now
-          → IfSome old (λ bytes. BreaksOff y counted n depth bytes (stopped_after f count) was now)
-      by Read s = breaks_between old left was between now count (serve.Read count) refl h s
-      by Write (inl k) = breaks_between old left was between now count (serve.Write count) refl h k
-      by Write (inr k) = breaks_within old left was between now count h k
+      by : (f : ServeFault) → StopsStep Reply f left between now
+          → IfSome old (λ bytes. BreaksOffBy Reply bytes (stopped_after f count) was now)
+      by serve.Memory s = absurd s
+      by (serve.Read before) s = breaks_between old left was between now count (serve.Read count) refl h s
+      by (serve.Write before) (inl k) = breaks_between old left was between now count (serve.Write count) refl h k
+      by (serve.Write before) (inr k) = breaks_within old left was between now count h k
+
+-- ---- what follows from each reply
+
+module _ (Q R : List ℕ → List ℕ → Type 0) (weaker : (r t : List ℕ) → Q r t → R r t) where
+  pairwise_weaker : (rs ts : List (List ℕ)) → Pairwise Q rs ts → Pairwise R rs ts
+  pairwise_weaker [] [] h = tt
+  pairwise_weaker [] (t ∷ ts) h = absurd h
+  pairwise_weaker (r ∷ rs) [] h = absurd h
+  pairwise_weaker (r ∷ rs) (t ∷ ts) h = (weaker r t h.0, pairwise_weaker rs ts h.1)
+
+  pub replies_weaker : (old left was now : Option (List ℕ)) → Replies Q old left was now → Replies R old left was now
+  replies_weaker old left was now h =
+      record { line = h.line; text = h.text; split = h.split; is = weaker h.line h.text h.is; written = h.written }
+
+  pub stops_weaker : (f : ServeFault) (old was now : Option (List ℕ)) → StopsStep Q f old was now → StopsStep R f old was now
+  stops_weaker serve.Memory old was now h = absurd h
+  stops_weaker (serve.Read before) old was now h = h
+  stops_weaker (serve.Write before) old was now (inl k) = inl k
+  stops_weaker (serve.Write before) old was now (inr s) =
+      inr (record { left = s.left; line = s.line; text = s.text; split = s.split; is = weaker s.line s.text s.is; written = s.written })
+
+  part_weaker : (fault : ServeFault) (left : List (List ℕ)) (part : List ℕ) → IsPart Q fault left part → IsPart R fault left part
+  part_weaker serve.Memory left part h = h
+  part_weaker (serve.Read a) left part h = h
+  part_weaker (serve.Write a) [] part h = h
+  part_weaker (serve.Write a) (r ∷ rs) part (inl e) = inl e
+  part_weaker (serve.Write a) (r ∷ rs) part (inr k) = inr (k.0, weaker r k.0 k.1, k.2)
+
+  pub converses_weaker : {X E : Type 0} (result : Result X E) (known old new : Option (List ℕ))
+      → OnOk result (IfSome known (λ bytes. ConversesBy Q bytes old new)) → OnOk result (IfSome known (λ bytes. ConversesBy R bytes old new))
+  converses_weaker (Err e) known old new h = tt
+  converses_weaker (Ok x) None old new h = tt
+  converses_weaker (Ok x) (Some bytes) old new h =
+      record { replies = h.replies; each = pairwise_weaker (requests bytes) h.replies h.each; written = h.written }
+
+  pub breaks_weaker : {X : Type 0} (result : Result X ServeFault) (known old new : Option (List ℕ))
+      → IfErr result (λ fault. IfSome known (λ bytes. BreaksOffBy Q bytes fault old new))
+      → IfErr result (λ fault. IfSome known (λ bytes. BreaksOffBy R bytes fault old new))
+  breaks_weaker (Ok x) known old new h = tt
+  breaks_weaker (Err fault) None old new h = tt
+  breaks_weaker (Err fault) (Some bytes) old new h = record {
+    done = h.done;
+    left = h.left;
+    split = h.split;
+    replies = h.replies;
+    each = pairwise_weaker h.done h.replies h.each;
+    count = h.count;
+    part = h.part;
+    begun = part_weaker fault h.left h.part h.begun;
+    written = h.written;
+  }

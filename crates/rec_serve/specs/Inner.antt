@@ -1,5 +1,9 @@
--- What the proofs speak of inside this crate: no public contract cites it.
+-- Definitions for the proofs of this crate: no public contract cites them.
 pub mod Asked
+pub mod Banks
+pub mod Causes
+pub mod Heard
 pub mod Reading
+pub mod Reasons
 pub mod Replying
-pub mod Wants
+pub mod Steps

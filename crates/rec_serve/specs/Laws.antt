@@ -1,4 +1,4 @@
--- The laws of a conversation.
+-- The laws of sessions.
 use Rattle.std.specs.Prelude.{ℕ, ◌≡◌, ◌<◌, ◌^◌, ◌⊎◌, ◌++◌, Bool, List, Option, IsTrue, codes}
 use Rattle.std.specs.Prelude.{flat_map, nat_lt}
 use Rattle.std.specs.List.{list_all}
@@ -7,6 +7,7 @@ use Rattle.rx_run.specs.Bytes.{newlines}
 use Rattle.rec_sorts.specs.Laws.{Every}
 use Rattle.rec_serve.specs.Conversation.{requests, IsAnswer, IsDue}
 use Rattle.rec_serve.specs.Replies.{IsWant}
+use Rattle.rec_run.specs.declared.options.ValueForm.{ValueForm}
 
 -- requests with their line ends
 abbrev pub ended : List (List ℕ) → List ℕ
@@ -16,38 +17,39 @@ ended rs = flat_map (λ r. r ++ codes "\n") rs
 abbrev pub IsInLine : List ℕ → Type 0
 IsInLine r = newlines r ≡ 0
 
--- nothing of a stream is lost: its requests with their line ends are the stream, but for the line
--- end that the last one may lack; none has a line end inside; and any such requests are those of a
--- stream
+-- no byte of a stream is lost: its requests with their line ends are the stream, except for the
+-- line end that the last one may lack; none has a line end inside; and any such requests are those
+-- of a stream
 pub record RequestsLaw : Type 0 where
   pub all : (bytes : List ℕ) → (ended (requests bytes) ≡ bytes)
       ⊎ (ended (requests bytes) ≡ bytes ++ codes "\n")
   pub in_line : (bytes : List ℕ) → Every IsInLine (requests bytes)
   pub back : (rs : List (List ℕ)) → Every IsInLine rs → requests (ended rs) ≡ rs
 
--- each request has one answer
+-- each request has exactly one specified response
 abbrev pub OneAnswer : Type 0
-OneAnswer = (y : Spec) (counted : Bool) (n : ℕ) (r : List ℕ) → (a : List ℕ)
-    × IsAnswer y counted n r a × ((b : List ℕ) → IsAnswer y counted n r b → b ≡ a)
+OneAnswer = (y : Spec) (counted : Bool) (form : ValueForm) (n : ℕ) (r : List ℕ) → (a : List ℕ)
+    × IsAnswer y counted form n r a × ((b : List ℕ) → IsAnswer y counted form n r b → b ≡ a)
 
--- an answer is one line, and no other line end stands in it; so requests and answers keep step
+-- a specified response is one line, with no other line end in it; so each request line has one
+-- response line
 abbrev pub OneLine : Type 0
-OneLine = (y : Spec) (counted : Bool) (n : ℕ) (r a : List ℕ) → n < 2 ^ 64
-    → IsTrue (list_all (λ b. nat_lt b 256) r) → IsAnswer y counted n r a
+OneLine = (y : Spec) (counted : Bool) (form : ValueForm) (n : ℕ) (r a : List ℕ) → n < 2 ^ 64
+    → IsTrue (list_all (λ b. nat_lt b 256) r) → IsAnswer y counted form n r a
     → (text : List ℕ) × (a ≡ text ++ codes "\n") × (newlines text ≡ 0)
 
--- and none is that of want of memory or of cells, or of a request that was too deep
+-- no specified response is the line of a request that ran out of memory, cells or call depth
 abbrev pub NoWant : Type 0
-NoWant = (y : Spec) (counted : Bool) (n : ℕ) (depth : Option ℕ) (r a : List ℕ)
-    → IsAnswer y counted n r a → IsWant depth a → ⊥
+NoWant = (y : Spec) (counted : Bool) (form : ValueForm) (n : ℕ) (depth : Option ℕ) (r a : List ℕ)
+    → IsAnswer y counted form n r a → IsWant depth a → ⊥
 
--- a stream may be divided behind a line end: the requests are those of each part; what is due for
--- requests one behind the other is what is due for each; and one text is due for any requests. So
--- it does not matter which process answers which
+-- a stream may be divided after a line end: the requests are those of each part; the output of two
+-- lists of requests is the output of each; and requests have one specified output. So it does not
+-- matter which process answers which
 pub record SplitLaw : Type 0 where
   pub streams : (front rest : List ℕ) → requests (front ++ codes "\n" ++ rest)
       ≡ requests (front ++ codes "\n") ++ requests rest
-  pub due : (y : Spec) (counted : Bool) (n : ℕ) (rs ss : List (List ℕ)) (a b : List ℕ)
-      → IsDue y counted n rs a → IsDue y counted n ss b → IsDue y counted n (rs ++ ss) (a ++ b)
-  pub one : (y : Spec) (counted : Bool) (n : ℕ) (rs : List (List ℕ)) (a b : List ℕ)
-      → IsDue y counted n rs a → IsDue y counted n rs b → a ≡ b
+  pub due : (y : Spec) (counted : Bool) (form : ValueForm) (n : ℕ) (rs ss : List (List ℕ)) (a b : List ℕ)
+      → IsDue y counted form n rs a → IsDue y counted form n ss b → IsDue y counted form n (rs ++ ss) (a ++ b)
+  pub one : (y : Spec) (counted : Bool) (form : ValueForm) (n : ℕ) (rs : List (List ℕ)) (a b : List ℕ)
+      → IsDue y counted form n rs a → IsDue y counted form n rs b → a ≡ b

@@ -1,131 +1,68 @@
-//! How a conversation ends, and why a request has no value.
+//! The errors of sessions, and the reasons why requests are rejected.
 
 ghost use Rattle.std.specs.Prelude.{◌≡◌};
+ghost use Rattle.rec_serve.specs.Inner.Steps.{stopped_after};
 
-use rec_engine::{DepthFault, EngineFault};
-use rx_term::BankFault;
-use rx_text::{RefusedWrite, WriteFault};
-use std::alloc::{AllocError, AllocFailed};
+use rx_text::{RefusedRead, RefusedWrite};
 use thiserror::Error;
 
-/// Why a conversation stopped before its end. `answered` counts the requests whose replies were
-/// written whole.
+/// An error that stops a session before its end. `answered` is the number of requests whose
+/// responses were written whole.
 #[derive(Clone, Copy, Debug, Drop, PartialEq, Eq, Error)]
 pub enum ServeFault {
-    /// A growth was refused before the first request was read.
+    /// An allocation failed before the first request was read.
     #[error("out of memory")]
     Memory,
-    /// A reader answered an error.
+    /// A reader returned an error.
     #[error("read failed")]
     Read { answered: u64 },
-    /// The writer answered an error, or took nothing.
+    /// The writer returned an error, or accepted no byte.
     #[error("write failed")]
     Write { answered: u64 },
 }
 
-/// What a request met that was not answered.
-#[derive(Clone, Copy, Debug, Drop, PartialEq, Eq, Error)]
-pub enum Want {
-    /// A growth was refused.
-    #[error("out of memory")]
-    Memory,
-    /// There were as many cells as the options allow.
-    #[error("out of cells")]
-    Cells,
-    /// As many calls waited as may.
-    #[error("too deep")]
-    Deep,
-}
-
-impl From<AllocError> for Want {
-    ghost use Rattle.rec_serve.specs.declared.ending.Want.TheVariants.{Memory};
-
-    ghost from_gives = { λ _ r. r ≡ Memory };
-
-    fn from(_error: AllocError) -> Want {
-        Want::Memory
-    }
-}
-
-impl<T: Drop> From<AllocFailed<T>> for Want {
-    ghost use Rattle.rec_serve.specs.declared.ending.Want.TheVariants.{Memory};
-
-    ghost from_gives = { λ _ r. r ≡ Memory };
-
-    fn from(_error: AllocFailed<T>) -> Want {
-        Want::Memory
-    }
-}
-
-impl From<BankFault> for Want {
-    ghost use Rattle.rec_serve.specs.Inner.Wants.{of_bank};
-
-    ghost from_gives = { λ e r. r ≡ of_bank e };
-
-    fn from(error: BankFault) -> Want {
-        match error {
-            BankFault::Memory => Want::Memory,
-            BankFault::Full => Want::Cells,
+impl ServeFault {
+    /// Returns the error of a session in which a stream failed after this number of responses.
+    pub(crate) fn after(self, answered: u64) -> ServeFault
+        ensures { result ≡ stopped_after self answered }
+    {
+        match self {
+            ServeFault::Memory => ServeFault::Memory,
+            ServeFault::Read { .. } => ServeFault::Read { answered },
+            ServeFault::Write { .. } => ServeFault::Write { answered },
         }
     }
 }
 
-impl From<EngineFault> for Want {
-    ghost use Rattle.rec_serve.specs.Inner.Wants.{of_engine};
+/// Makes the error of a reader that failed before the first response.
+impl From<RefusedRead> for ServeFault {
+    ghost use Rattle.rec_serve.specs.declared.ending.ServeFault.TheVariants.{Read};
 
-    ghost from_gives = { λ e r. r ≡ of_engine e };
+    ghost from_gives = { λ _ r. r ≡ Read 0 };
 
-    fn from(error: EngineFault) -> Want {
-        match error {
-            EngineFault::Memory => Want::Memory,
-            EngineFault::Room => Want::Cells,
-        }
+    fn from(_error: RefusedRead) -> ServeFault {
+        ServeFault::Read { answered: 0 }
     }
 }
 
-impl From<DepthFault> for Want {
-    ghost use Rattle.rec_serve.specs.Inner.Wants.{of_depth};
+/// Makes the error of a writer that failed before the first response.
+impl From<RefusedWrite> for ServeFault {
+    ghost use Rattle.rec_serve.specs.declared.ending.ServeFault.TheVariants.{Write};
 
-    ghost from_gives = { λ e r. r ≡ of_depth e };
+    ghost from_gives = { λ _ r. r ≡ Write 0 };
 
-    fn from(error: DepthFault) -> Want {
-        match error {
-            DepthFault::Memory => Want::Memory,
-            DepthFault::Room => Want::Cells,
-            DepthFault::Deep => Want::Deep,
-        }
+    fn from(_error: RefusedWrite) -> ServeFault {
+        ServeFault::Write { answered: 0 }
     }
 }
 
-/// A text in memory refuses to be written only where there is no room for it.
-impl From<WriteFault> for Want {
-    ghost use Rattle.rec_serve.specs.declared.ending.Want.TheVariants.{Memory};
-
-    ghost from_gives = { λ _ r. r ≡ Memory };
-
-    fn from(_error: WriteFault) -> Want {
-        Want::Memory
-    }
-}
-
-/// The same.
-impl From<RefusedWrite> for Want {
-    ghost use Rattle.rec_serve.specs.declared.ending.Want.TheVariants.{Memory};
-
-    ghost from_gives = { λ _ r. r ≡ Memory };
-
-    fn from(_error: RefusedWrite) -> Want {
-        Want::Memory
-    }
-}
-
-/// Why a request is refused.
+/// The reason why a request is rejected.
 #[derive(Clone, Copy, Debug, Drop, PartialEq, Eq)]
 pub enum Refusal {
-    /// It is longer than a term's text may be.
+    /// The request is longer than the text of a term may be.
     Long,
-    /// It spells no term, from the token behind so many bytes on.
+    /// The request is not a term: `at` is the offset of the first token that no term has there.
     Outside { at: u32 },
-    /// It breaks this one of the rules 2 to 6 of given terms first.
+    /// The term violates this well-formedness rule of input terms, T2 to T6, and none before it.
     Rule { number: u8 },
 }

@@ -1,52 +1,24 @@
-//! Bytes that were read and belong to no request yet.
+//! Bytes that were read and do not belong to a request yet.
 
 ghost use Rattle.std.specs.Prelude.{◌≡◌, ◌≤◌, ◌<◌, ◌==◌, position, vec_len};
 
+use crate::ending::ServeFault;
 use crate::request::Request;
-use rx_text::{Input, Output, RefusedRead, RefusedWrite};
+use rx_text::{Input, Output, RefusedRead};
 use std::alloc::{AllocError, Global};
 use std::io::{Read, Write};
 
-/// Which stream failed.
-#[derive(Clone, Copy)]
-pub(crate) enum StreamFault {
-    /// The reader answered an error.
-    Read,
-    /// The writer did.
-    Write,
-}
-
-impl From<RefusedRead> for StreamFault {
-    ghost use Rattle.rec_serve.specs.declared.read_ahead.StreamFault.TheVariants.{Read};
-
-    ghost from_gives = { λ _ r. r ≡ Read };
-
-    fn from(_error: RefusedRead) -> StreamFault {
-        StreamFault::Read
-    }
-}
-
-impl From<RefusedWrite> for StreamFault {
-    ghost use Rattle.rec_serve.specs.declared.read_ahead.StreamFault.TheVariants.{Write};
-
-    ghost from_gives = { λ _ r. r ≡ Write };
-
-    fn from(_error: RefusedWrite) -> StreamFault {
-        StreamFault::Write
-    }
-}
-
-/// How many bytes are read at once, at most.
+/// The largest number of bytes that are read at once.
 const AT_ONCE: usize = 65_536;
 
-/// Bytes that were read and belong to no request yet.
+/// Bytes that were read and do not belong to a request yet.
 #[derive(Drop)]
 pub(crate) struct ReadAhead {
-    /// The last bytes that were read, and room behind them.
+    /// The last bytes that were read, followed by unused space.
     buffer: Vec<u8>,
-    /// Where those begin that belong to no request yet.
+    /// The offset of the first byte that does not belong to a request yet.
     at: usize,
-    /// Where they end.
+    /// The offset after the last one.
     end: usize,
     ghost ordered: { at ≤ end },
     ghost within: { end ≤ vec_len buffer },
@@ -55,11 +27,15 @@ pub(crate) struct ReadAhead {
 
 impl ReadAhead {
     ghost use Rattle.std.specs.Prelude.{◌↔◌, ◌++◌, [], List, ℕ, IfOk, IsTrue, Ok, drop, false};
-    ghost use Rattle.std.specs.Prelude.{length, true};
+    ghost use Rattle.std.specs.Prelude.{MatchResult, length, true};
     ghost use Rattle.std.specs.Io.KnownBytes.{IsAtEnd, Keeps};
+    ghost use Rattle.rx_text.specs.Input.{HasRefusedRead, IsSameInput, ReportsRefusedRead};
+    ghost use Rattle.rx_text.specs.Input.{remaining_in};
+    ghost use Rattle.rx_text.specs.Output.{contents_of};
+    ghost use Rattle.rec_serve.specs.Inner.Causes.{OnRead, ReportsServeWrite};
     ghost use Rattle.rec_serve.specs.Inner.Reading.{IsRead, Takes, left_of, unread};
 
-    /// Nothing was read.
+    /// Makes a buffer from which nothing is left to take.
     pub(crate) fn new(alloc: Global) -> Result<ReadAhead, AllocError>
         ensures { IfOk result (λ a. unread a ≡ []) }
     {
@@ -70,21 +46,21 @@ impl ReadAhead {
         })
     }
 
-    /// Whether all that was read belongs to a request.
+    /// Returns whether all bytes that were read belong to a request.
     fn is_empty(&self) -> bool
         ensures { IsTrue result ↔ (unread self.now ≡ []) }
     {
         self.at == self.end
     }
 
-    /// The bytes that belong to no request yet.
+    /// Returns the bytes that do not belong to a request yet.
     fn rest(&self) -> &[u8]
         ensures { result.now ≡ unread self.now }
     {
         &self.buffer[self.at..self.end]
     }
 
-    /// Passes over so many bytes.
+    /// Skips the next `count` bytes.
     fn skip(&mut self, count: usize)
         requires { count ≤ length (unread self.old) }
         ensures { unread self.new ≡ drop count (unread self.old) }
@@ -92,43 +68,50 @@ impl ReadAhead {
         self.at += count;
     }
 
-    /// One read, after which there is something: whether the reader gave anything.
-    fn fill<R: Read>(&mut self, reader: &mut R) -> Result<bool, RefusedRead>
-        requires { unread self.old ≡ [] }
-        ensures left { Keeps (R.remaining reader.old) (left_of self.new (R.remaining reader.new)) }
+    /// Reads once into an empty buffer, and returns whether the reader returned any bytes.
+    fn fill<R: Read>(&mut self, reader: &mut Input<'_, R>) -> Result<bool, RefusedRead>
+        requires empty { unread self.old ≡ [] }
+        ensures left { Keeps (remaining_in R.remaining reader.old)
+            (left_of self.new (remaining_in R.remaining reader.new)) }
         ensures some { result ≡ Ok true → 0 < length (unread self.new) }
         ensures none { result ≡ Ok false → unread self.new ≡ [] }
-        ensures end { result ≡ Ok false → IsAtEnd (R.remaining reader.new) }
+        ensures end { result ≡ Ok false → IsAtEnd (remaining_in R.remaining reader.new) }
+        ensures reports { ReportsRefusedRead reader.old reader.new result }
     {
         self.at = 0;
         self.end = 0;
-        let count = Input::new(reader).read(&mut self.buffer)?;
+        let count = reader.read(&mut self.buffer)?;
         self.end = count;
         Ok(count > 0)
     }
 
-    /// Sees to it that there is something, where the reader has more: whether there is. What was
-    /// written is flushed before a read.
+    /// Reads if the buffer is empty, and returns whether it has bytes then. All output is flushed
+    /// before a read.
     pub(crate) fn refill<R: Read, W: Write>(
         &mut self,
-        reader: &mut R,
-        out: &mut W,
-    ) -> Result<bool, StreamFault>
-        ensures left { Keeps (left_of self.old (R.remaining reader.old))
-            (left_of self.new (R.remaining reader.new)) }
+        reader: &mut Input<'_, R>,
+        out: &mut Output<'_, W>,
+    ) -> Result<bool, ServeFault>
+        ensures left { Keeps (left_of self.old (remaining_in R.remaining reader.old))
+            (left_of self.new (remaining_in R.remaining reader.new)) }
         ensures some { result ≡ Ok true → 0 < length (unread self.new) }
         ensures none { result ≡ Ok false → unread self.new ≡ [] }
-        ensures end { result ≡ Ok false → IsAtEnd (R.remaining reader.new) }
-        ensures kept { Keeps (W.contents out.old) (W.contents out.new) }
+        ensures end { result ≡ Ok false → IsAtEnd (remaining_in R.remaining reader.new) }
+        ensures kept { Keeps (contents_of W.contents out.old) (contents_of W.contents out.new) }
+        ensures read_reports { IsSameInput reader.old reader.new
+            × MatchResult result (λ _. reader.new.refused ≡ reader.old.refused)
+            (OnRead (HasRefusedRead reader.new)) }
+        ensures write_reports { ReportsServeWrite out.old out.new result }
     {
         if !self.is_empty() {
             return Ok(true);
         }
-        Output::new(out).flush()?;
+        out.flush()?;
         Ok(self.fill(reader)?)
     }
 
-    /// Takes the bytes up to a line end, or all, into a request: whether there was a line end.
+    /// Moves the bytes before the first line end, or all bytes, to a request, and returns whether
+    /// there was a line end, which is skipped.
     pub(crate) fn take_piece(&mut self, request: &mut Request) -> bool
         ensures { (piece : List ℕ) × Takes self.old self.new result piece
             × ((line : List ℕ) → IsRead request.old line → IsRead request.new (line ++ piece)) }
@@ -148,7 +131,7 @@ impl ReadAhead {
     }
 }
 
-/// How many bytes stand before the first line end.
+/// Returns the number of bytes before the first line end, if there is one.
 fn line_end(bytes: &[u8]) -> Option<usize>
     ensures { result ≡ position (λ b. b == 10) bytes.now }
 {

@@ -1,19 +1,19 @@
-//! A request as far as it was read.
+//! The part of a request that was read so far.
 
 ghost use Rattle.std.specs.Prelude.{◌≤◌, vec_len};
 
 use rx_text::LONGEST;
 use std::alloc::Global;
 
-/// The most bytes that are kept of a request: one more than a text may have.
+/// The largest number of bytes of a request that are kept: one more than a text may have.
 const MOST_KEPT: usize = LONGEST + 1;
 
-/// A request as far as it was read.
+/// The part of a request that was read so far.
 #[derive(Drop)]
 pub(crate) struct Request {
-    /// Its bytes, one more at most than a text may have.
+    /// The bytes of the request, at most one more than a text may have.
     pub(crate) text: Vec<u8>,
-    /// Whether there was no memory for them.
+    /// Whether an allocation for these bytes failed.
     pub(crate) is_lost: bool,
     ghost short: { vec_len text ≤ 16777217 },
 }
@@ -23,7 +23,7 @@ impl Request {
     ghost use Rattle.std.specs.Prelude.{length, true};
     ghost use Rattle.rec_serve.specs.Inner.Reading.{IsRead};
 
-    /// Nothing so far.
+    /// Makes a request of which nothing was read.
     pub(crate) fn new(alloc: Global) -> Request
         ensures { IsRead result [] }
     {
@@ -33,7 +33,7 @@ impl Request {
         }
     }
 
-    /// Whether a byte was read.
+    /// Returns whether a byte of the request was read.
     fn is_begun(&self) -> bool
         ensures none { result ≡ false → (line : List ℕ) → IsRead self.now line → line ≡ [] }
         ensures some { result ≡ true → (line : List ℕ) → IsRead self.now line → 0 < length line }
@@ -44,14 +44,14 @@ impl Request {
         self.text.len() > 0
     }
 
-    /// The request where its line end was read.
+    /// Returns the request after its line end was read.
     pub(crate) fn ended(self) -> Option<Request>
         ensures { result ≡ Some self }
     {
         Some(self)
     }
 
-    /// The request at the end of a stream; none, where no byte was read.
+    /// Returns the request at the end of a stream, or `None` if no byte of it was read.
     pub(crate) fn last(self) -> Option<Request>
         ensures { MatchOption result ((line : List ℕ) → IsRead self line → line ≡ [])
             (λ request. (request ≡ self)
@@ -60,7 +60,7 @@ impl Request {
         if self.is_begun() { Some(self) } else { None }
     }
 
-    /// Goes on by a piece. Bytes behind the most that are kept are passed over.
+    /// Appends a piece to the request. Bytes after the first `MOST_KEPT` ones are dropped.
     pub(crate) fn keep(&mut self, piece: &[u8])
         ensures { (line : List ℕ) → IsRead self.old line → IsRead self.new (line ++ piece.now) }
     {

@@ -1,14 +1,20 @@
-//! Whole runs: a specification, and a conversation over it.
+//! Whole runs: a specification, and a session over it.
 
 ghost use Rattle.std.specs.Prelude.{◌≡◌, ℕ, IfErr, IfOk, IfSome, OnErr, OnOk};
-ghost use Rattle.std.specs.Io.KnownBytes.{Appends, IsAtEnd};
-ghost use Rattle.rx_text.specs.Written.{AppendsFront};
+ghost use Rattle.std.specs.Io.KnownBytes.{IsAtEnd};
+ghost use Rattle.rx_text.specs.Input.{remaining_in};
+ghost use Rattle.rx_text.specs.Output.{ReportsRefusal, Writes, WritesFront, contents_of};
 ghost use Rattle.rec_syntax.specs.Syntax.{Spec};
 ghost use Rattle.rec_sorts.specs.SpecRules.{Good, Verdict};
 ghost use Rattle.rec_run.specs.GivenTerms.{IsRefusal, OnGoodSpec, OnRefusedSpec};
 ghost use Rattle.rec_run.specs.Reading.{IsSpecReading};
 ghost use Rattle.rx_run.specs.Refusals.{refusal_due};
-ghost use Rattle.rx_run.specs.Run.{IsReadOut};
+ghost use Rattle.rx_run.specs.Run.{IsReadOut, StopsReading};
+ghost use Rattle.rec_serve.specs.Inner.Causes.{
+  ReportsServeRead,
+  ReportsServeReads,
+  ReportsServeWrite,
+};
 ghost use Rattle.rec_serve.specs.Replies.{
   BreaksAfter,
   BreaksOff,
@@ -19,23 +25,23 @@ ghost use Rattle.rec_serve.specs.Replies.{
   unread_fault,
 };
 
-use crate::conversation::{Listener, converse_within};
+use crate::conversation::{Listener, converse_from};
 use crate::ending::ServeFault;
 use crate::settings::ServeSettings;
-use rec_run::{engine_over, read_spec_text};
+use rec_run::{engine_over, read_spec_text_from};
 use rec_sorts::Checked;
-use rx_run::{Ending, ReadFault, Reading, Refusal, flush, write_refusal};
+use rx_run::{Ending, Reading, Refusal, RunFault, write_refusal_to};
 use rx_shared::SharedBank;
 use rx_term::TermBank;
-use rx_text::RefusedWrite;
+use rx_text::{Input, Output, RefusedWrite};
 use std::alloc::Global;
 use std::io::{Read, Write};
 
-/// Reads a specification and, where it is good, answers the requests of a stream by one line for
-/// each, whatever came before; or writes the line of its refusal, and reads no request. Terms that
-/// the specification itself evaluates are not evaluated. Where it is said how many calls may wait,
-/// a request that is too deep is answered by a line that says so. Who listens is told of each
-/// request that is refused.
+/// Reads a specification. If it is accepted, answers the requests of a stream with one response
+/// line for each, whatever the requests before it were. If it is rejected, writes its error line
+/// and reads no request. EVAL terms are not evaluated. If the settings have a call-depth limit, a
+/// request that reaches it has the response `!depth`. The listener receives each request that is
+/// rejected.
 pub fn run_serve<S: Read, R: Read, W: Write, L: Listener>(
     alloc: Global,
     spec: &mut S,
@@ -45,52 +51,103 @@ pub fn run_serve<S: Read, R: Read, W: Write, L: Listener>(
     listener: &mut L,
 ) -> Result<Ending, ServeFault>
     ensures ends { IfOk result (λ ending. ConcludesServing settings.options.count
-        settings.options.steps settings.depth (S.remaining spec.old) (R.remaining requests.old)
+        settings.form settings.options.steps settings.depth (S.remaining spec.old) (R.remaining requests.old)
         ending (W.contents out.old) (W.contents out.new)) }
     ensures fault { IfErr result (λ fault. BreaksServing settings.options.count
-        settings.options.steps settings.depth (S.remaining spec.old) (R.remaining requests.old)
+        settings.form settings.options.steps settings.depth (S.remaining spec.old) (R.remaining requests.old)
         fault (W.contents out.old) (W.contents out.new)) }
     ensures spec_read { OnOk result (IsReadOut (S.remaining spec.old) (S.remaining spec.new)) }
     ensures requests_read { OnOk result (OnGoodSpec (S.remaining spec.old)
         (IsAtEnd (R.remaining requests.new))) }
     ensures unread { OnRefusedSpec (S.remaining spec.old) (requests.new ≡ requests.old) }
 {
-    match read_spec_text(alloc, spec) {
-        Ok(reading) => serve_reading(alloc, reading, requests, out, settings, listener),
+    let mut spec = Input::new(spec);
+    let mut input = Input::new(requests);
+    let mut output = Output::new(out);
+    serve_from(
+        alloc,
+        &mut spec,
+        settings,
+        &mut input,
+        &mut output,
+        listener,
+    )
+}
+
+/// Runs a session from two inputs and to an output, as `run_serve` does. A stream that has failed
+/// is not used again.
+fn serve_from<S: Read, R: Read, W: Write, L: Listener>(
+    alloc: Global,
+    spec: &mut Input<'_, S>,
+    settings: ServeSettings,
+    requests: &mut Input<'_, R>,
+    out: &mut Output<'_, W>,
+    listener: &mut L,
+) -> Result<Ending, ServeFault>
+    ensures ends { IfOk result (λ ending. ConcludesServing settings.options.count
+        settings.form settings.options.steps settings.depth (remaining_in S.remaining spec.old)
+        (remaining_in R.remaining requests.old) ending
+        (contents_of W.contents out.old) (contents_of W.contents out.new)) }
+    ensures fault { IfErr result (λ fault. BreaksServing settings.options.count
+        settings.form settings.options.steps settings.depth (remaining_in S.remaining spec.old)
+        (remaining_in R.remaining requests.old) fault
+        (contents_of W.contents out.old) (contents_of W.contents out.new)) }
+    ensures spec_read { OnOk result (IsReadOut (remaining_in S.remaining spec.old)
+        (remaining_in S.remaining spec.new)) }
+    ensures requests_read { OnOk result (OnGoodSpec (remaining_in S.remaining spec.old)
+        (IsAtEnd (remaining_in R.remaining requests.new))) }
+    ensures unread { OnRefusedSpec (remaining_in S.remaining spec.old)
+        (requests.new ≡ requests.old) }
+    ensures read_reports { ReportsServeReads spec.old spec.new
+        requests.old requests.new
+        (remaining_in R.remaining requests.old) result }
+    ensures write_reports { ReportsServeWrite out.old out.new result }
+{
+    match read_spec_text_from(alloc, spec) {
+        Ok(reading) => serve_reading(alloc, reading, settings, requests, out, listener),
         Err(fault) => Err(unread(fault)),
     }
 }
 
-/// The fault of a run where a specification was not read.
-fn unread(fault: ReadFault) -> ServeFault
+/// Returns the error of a run whose specification was not read.
+fn unread(fault: RunFault) -> ServeFault
+    requires { StopsReading fault }
     ensures { result ≡ unread_fault fault }
 {
     match fault {
-        ReadFault::Memory => ServeFault::Memory,
-        ReadFault::Read => ServeFault::Read { answered: 0 },
+        RunFault::Memory { lines: _ } => ServeFault::Memory,
+        RunFault::Read => ServeFault::Read { answered: 0 },
+        RunFault::Room { lines: _ } => unreachable!(),
+        RunFault::Deep { lines: _ } => unreachable!(),
+        RunFault::Write => unreachable!(),
     }
 }
 
-/// Answers the requests where a specification is good, and refuses it where it is not.
+/// Answers the requests if the specification is accepted, and writes its error line if it is
+/// rejected.
 fn serve_reading<R: Read, W: Write, L: Listener>(
     alloc: Global,
     reading: Reading<Checked>,
-    requests: &mut R,
-    out: &mut W,
     settings: ServeSettings,
+    requests: &mut Input<'_, R>,
+    out: &mut Output<'_, W>,
     listener: &mut L,
 ) -> Result<Ending, ServeFault>
     ensures ends { IfOk result (λ ending. (v : Verdict) → IsSpecReading reading v
-        → ConcludesAfter settings.options.count settings.options.steps settings.depth v
-        (R.remaining requests.old) ending (W.contents out.old) (W.contents out.new)) }
+        → ConcludesAfter settings.options.count settings.form settings.options.steps settings.depth v
+        (remaining_in R.remaining requests.old) ending
+        (contents_of W.contents out.old) (contents_of W.contents out.new)) }
     ensures fault { IfErr result (λ fault. (v : Verdict) → IsSpecReading reading v
-        → BreaksAfter settings.options.count settings.options.steps
-        settings.depth v (R.remaining requests.old) fault
-        (W.contents out.old) (W.contents out.new)) }
+        → BreaksAfter settings.options.count settings.form settings.options.steps
+        settings.depth v (remaining_in R.remaining requests.old) fault
+        (contents_of W.contents out.old) (contents_of W.contents out.new)) }
     ensures requests_read { OnOk result ((y : Spec) → IsSpecReading reading (Good y)
-        → IsAtEnd (R.remaining requests.new)) }
+        → IsAtEnd (remaining_in R.remaining requests.new)) }
     ensures unread { (v : Verdict) → IsSpecReading reading v → IsRefusal v
         → requests.new ≡ requests.old }
+    ensures read_reports { ReportsServeRead requests.old requests.new
+        (remaining_in R.remaining requests.old) result }
+    ensures write_reports { ReportsServeWrite out.old out.new result }
 {
     match reading {
         Reading::Refused(refusal) => match refuse(refusal, out) {
@@ -98,68 +155,81 @@ fn serve_reading<R: Read, W: Write, L: Listener>(
             Err(RefusedWrite) => Err(ServeFault::Write { answered: 0 }),
         },
         Reading::Good(checked) => {
-            serve(alloc, checked, requests, out, settings, listener)?;
-            Ok(Ending::Done)
+            match serve(alloc, checked, settings, requests, out, listener) {
+                Ok(()) => Ok(Ending::Done),
+                Err(fault) => Err(fault),
+            }
         }
     }
 }
 
-/// Writes the line of a refusal, and flushes.
-fn refuse<W: Write>(refusal: Refusal, out: &mut W) -> Result<(), RefusedWrite>
-    ensures ok { OnOk result
-        (Appends (W.contents out.old) (W.contents out.new) (refusal_due refusal).text) }
-    ensures err { OnErr result
-        (AppendsFront (refusal_due refusal).text (W.contents out.old) (W.contents out.new)) }
+/// Writes the error line of a rejected specification, and flushes.
+fn refuse<W: Write>(refusal: Refusal, out: &mut Output<'_, W>) -> Result<(), RefusedWrite>
+    ensures ok { OnOk result (Writes W.contents out.old out.new (refusal_due refusal).text) }
+    ensures err { OnErr result (WritesFront W.contents out.old out.new (refusal_due refusal).text) }
+    ensures reports { ReportsRefusal out.old out.new result }
 {
-    write_refusal(refusal, out)?;
-    flush(out)
+    write_refusal_to(refusal, out)?;
+    out.flush()
 }
 
-/// Answers the requests by a good specification.
+/// Answers the requests with an accepted specification.
 fn serve<R: Read, W: Write, L: Listener>(
     alloc: Global,
     checked: Checked,
-    requests: &mut R,
-    out: &mut W,
     settings: ServeSettings,
+    requests: &mut Input<'_, R>,
+    out: &mut Output<'_, W>,
     listener: &mut L,
 ) -> Result<(), ServeFault>
-    ensures output { OnOk result (IfSome (R.remaining requests.old)
-        (λ bytes. Converses checked.spec settings.options.count settings.options.steps
-        settings.depth bytes (W.contents out.old) (W.contents out.new))) }
-    ensures fault { IfErr result (λ fault. IfSome (R.remaining requests.old)
-        (λ bytes. BreaksOff checked.spec settings.options.count settings.options.steps
-        settings.depth bytes fault (W.contents out.old) (W.contents out.new))) }
-    ensures requests_read { OnOk result (IsAtEnd (R.remaining requests.new)) }
+    ensures output { OnOk result (IfSome (remaining_in R.remaining requests.old)
+        (λ bytes. Converses checked.spec settings.options.count settings.form settings.options.steps
+        settings.depth bytes (contents_of W.contents out.old)
+        (contents_of W.contents out.new))) }
+    ensures fault { IfErr result (λ fault. IfSome (remaining_in R.remaining requests.old)
+        (λ bytes. BreaksOff checked.spec settings.options.count settings.form settings.options.steps
+        settings.depth bytes fault (contents_of W.contents out.old)
+        (contents_of W.contents out.new))) }
+    ensures requests_read { OnOk result (IsAtEnd (remaining_in R.remaining requests.new)) }
+    ensures read_reports { ReportsServeRead requests.old requests.new
+        (remaining_in R.remaining requests.old) result }
+    ensures write_reports { ReportsServeWrite out.old out.new result }
 {
     match SharedBank::new(alloc, settings.options.cells) {
-        Ok(bank) => serve_over(alloc, bank, checked, requests, out, settings, listener),
+        Ok(bank) => serve_over(alloc, bank, checked, settings, requests, out, listener),
         Err(_) => Err(ServeFault::Memory),
     }
 }
 
-/// The same over an empty bank.
+/// Answers the requests with an accepted specification over an empty store with the capacity of the
+/// settings.
 fn serve_over<B: TermBank + Drop, R: Read, W: Write, L: Listener>(
     alloc: Global,
     bank: B,
     checked: Checked,
-    requests: &mut R,
-    out: &mut W,
     settings: ServeSettings,
+    requests: &mut Input<'_, R>,
+    out: &mut Output<'_, W>,
     listener: &mut L,
 ) -> Result<(), ServeFault>
-    requires { (t : ℕ) → (B.store bank).roots t ≡ 0 }
-    ensures output { OnOk result (IfSome (R.remaining requests.old)
-        (λ bytes. Converses checked.spec settings.options.count settings.options.steps
-        settings.depth bytes (W.contents out.old) (W.contents out.new))) }
-    ensures fault { IfErr result (λ fault. IfSome (R.remaining requests.old)
-        (λ bytes. BreaksOff checked.spec settings.options.count settings.options.steps
-        settings.depth bytes fault (W.contents out.old) (W.contents out.new))) }
-    ensures requests_read { OnOk result (IsAtEnd (R.remaining requests.new)) }
+    requires unrooted { (t : ℕ) → (B.store bank).roots t ≡ 0 }
+    requires limit { (B.store bank).cap ≡ settings.options.cells }
+    ensures output { OnOk result (IfSome (remaining_in R.remaining requests.old)
+        (λ bytes. Converses checked.spec settings.options.count settings.form settings.options.steps
+        settings.depth bytes (contents_of W.contents out.old)
+        (contents_of W.contents out.new))) }
+    ensures fault { IfErr result (λ fault. IfSome (remaining_in R.remaining requests.old)
+        (λ bytes. BreaksOff checked.spec settings.options.count settings.form settings.options.steps
+        settings.depth bytes fault (contents_of W.contents out.old)
+        (contents_of W.contents out.new))) }
+    ensures requests_read { OnOk result (IsAtEnd (remaining_in R.remaining requests.new)) }
+    ensures read_reports { ReportsServeRead requests.old requests.new
+        (remaining_in R.remaining requests.old) result }
+    ensures write_reports { ReportsServeWrite out.old out.new result }
 {
     match engine_over(alloc, checked, bank, None, settings.options) {
         Ok(mut engine) => {
-            let end = converse_within(alloc, &mut engine, requests, out, settings, listener);
+            let end = converse_from(alloc, &mut engine, settings, requests, out, listener);
             // By a call: the end of the block would drop each part of an engine here.
             drop(engine);
             end

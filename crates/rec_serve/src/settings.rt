@@ -1,13 +1,14 @@
-//! What a conversation may use.
+//! The settings of a session.
 
-use rec_run::RunOptions;
+use rec_run::{RunOptions, ValueForm};
 
-/// All that a conversation is told besides its texts.
+/// The settings of a session: the limits of its requests and the form of its responses.
 #[derive(Clone, Copy, Debug, Drop)]
 pub struct ServeSettings {
-    /// What it may use.
+    /// The limits of an evaluation. `count` adds the steps spent to the responses that are values.
     pub options: RunOptions,
-    /// How many calls may wait at once for a request; without a number as many as there is memory
-    /// for.
+    /// The form of values.
+    pub form: ValueForm,
+    /// The call-depth limit of a request in frames. With `None`, only memory limits the depth.
     pub depth: Option<u32>,
 }

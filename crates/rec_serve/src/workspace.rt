@@ -1,43 +1,66 @@
-//! What the answers of a conversation are made with.
+//! The data with which the responses of a session are made.
 
-ghost use Rattle.std.specs.Prelude.{◌<◌, ◌≤◌, ◌^◌};
+ghost use Rattle.std.specs.Prelude.{◌≡◌, ◌<◌, ◌≤◌, ◌^◌, IfOk};
+ghost use Rattle.std.specs.Option.{ForSome};
+ghost use Rattle.rx_shared.specs.State.{store_of};
+ghost use Rattle.rec_serve.specs.Inner.Banks.{IsEmptied, IsUnrooted};
 
+use crate::settings::ServeSettings;
 use rx_shared::SharedBank;
 use rx_term::TermBank;
 use std::alloc::{AllocError, Global};
 
-/// How many bytes of requests are read in one bank.
+/// The number of bytes of requests after which the store is replaced.
 const MOST_BYTES: usize = 65_536;
 
-/// An allocator, and a bank in which requests are read: no term of one is there while another is
-/// read, and after some bytes a new one takes its place, so that names of requests never stay.
+/// An allocator, the settings of a session, and a store in which requests are read. The store has
+/// no terms of earlier requests while a request is read. A new store replaces it after some bytes,
+/// so that names of requests are not kept forever.
 #[derive(Drop)]
 pub(crate) struct Workspace {
     /// The allocator.
     pub(crate) alloc: Global,
-    /// The bank in which the last request was read.
+    /// The settings of the session.
+    pub(crate) settings: ServeSettings,
+    /// The store in which the last request was read.
     bank: Option<Box<SharedBank>>,
-    /// How many bytes were read in it.
+    /// The number of bytes that were read in this store.
     bytes: usize,
+    ghost unrooted: { ForSome bank (λ b. IsUnrooted (store_of b.value)) },
+    ghost limit: { ForSome bank (λ b. (store_of b.value).cap ≡ settings.options.cells) },
 }
 
 impl Workspace {
-    /// A workspace without a bank.
-    pub(crate) fn new(alloc: Global) -> Workspace {
+    ghost use Rattle.std.specs.Prelude.{None, Some};
+
+    /// Makes a workspace without a store.
+    pub(crate) fn new(alloc: Global, settings: ServeSettings) -> Workspace
+        ensures { result.settings ≡ settings }
+    {
         Workspace {
             alloc,
+            settings,
             bank: None,
             bytes: 0,
         }
     }
 
-    /// A bank without terms, of so many cells, for a request of so many bytes.
-    pub(crate) fn take_bank(
-        &mut self,
-        cells: u32,
-        bytes: usize,
-    ) -> Result<Box<SharedBank>, AllocError>
-        requires { (0 < cells) × (cells ≤ 2 ^ 30) }
+    /// Drops the store if enough bytes were read in it.
+    pub(crate) fn renew(&mut self)
+        ensures { self.new.settings ≡ self.old.settings }
+    {
+        if self.bytes > MOST_BYTES {
+            self.bank = None;
+            self.bytes = 0;
+        }
+    }
+
+    /// Returns a store without terms, with the capacity of the settings, for a request of `bytes`
+    /// bytes.
+    pub(crate) fn take_bank(&mut self, bytes: usize) -> Result<Box<SharedBank>, AllocError>
+        ensures empty { IfOk result
+            (λ b. IsEmptied (store_of b.value) self.old.settings.options.cells) }
+        ensures same { self.new.settings ≡ self.old.settings }
     {
         self.bytes = self.bytes.saturating_add(bytes);
         match self.bank.take() {
@@ -45,23 +68,25 @@ impl Workspace {
                 bank.reclaim(&[]);
                 Ok(bank)
             }
-            None => new_bank(self.alloc, cells),
+            None => new_bank(self.alloc, self.settings.options.cells),
         }
     }
 
-    /// Takes the bank of a request back for the next one, unless enough was read in it.
-    pub(crate) fn give_back(&mut self, bank: Box<SharedBank>) {
-        if self.bytes <= MOST_BYTES {
-            self.bank = Some(bank);
-        } else {
-            self.bytes = 0;
-        }
+    /// Takes the store of a request back, for the next one.
+    pub(crate) fn give_back(&mut self, bank: Box<SharedBank>)
+        requires unrooted { IsUnrooted (store_of bank.value) }
+        requires limit { (store_of bank.value).cap ≡ self.old.settings.options.cells }
+        ensures held { self.new.bank ≡ Some bank }
+        ensures same { self.new.settings ≡ self.old.settings }
+    {
+        self.bank = Some(bank);
     }
 }
 
-/// A bank of so many cells.
+/// Makes an empty store with a capacity of `cells` cells.
 fn new_bank(alloc: Global, cells: u32) -> Result<Box<SharedBank>, AllocError>
     requires { (0 < cells) × (cells ≤ 2 ^ 30) }
+    ensures { IfOk result (λ b. IsEmptied (store_of b.value) cells) }
 {
     match SharedBank::new(alloc, cells) {
         Ok(bank) => match Box::new(alloc, bank) {

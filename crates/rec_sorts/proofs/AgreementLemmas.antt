@@ -1,4 +1,4 @@
--- What the letters of a term show is what the rules ask of its subterms.
+-- What the items of a term show is what the rules ask of its subterms.
 use Rattle.std.proofs.Common.{refl, sym, ap, ◌∙◌, arith}
 use Rattle.std.proofs.lemmas.Bool.{false≢true, eq-eqb, eqb-true}
 use Rattle.std.proofs.lemmas.List.{length-map, length-append}
@@ -40,7 +40,7 @@ last-push ps p =
     ∙ slice_get-get_or (ps ++ p ∷ []) (length ps) p (omega (arith, length-append ps (p ∷ [])))
     ∙ ap (λ (q : Placed). Some q) (get_or-append_seam ps p [] p)
 
--- a term's own letter is its last
+-- a term's own item is its last
 pub last_letter-letters : (s : Scope) (t : Term) → last_letter (letters_of s t) ≡ Some (head_placed s t)
 last_letter-letters s (Apply w ts) =
     ap last_letter (map-append (placed_by s) (flat_all ts) (record { word = w; count = term_count ts } ∷ []))
@@ -139,7 +139,7 @@ module _ (y : Spec) (s : Scope) (h : IsScope y s) where
         by_test true = refl
         by_test false = refl
 
-  -- a left side whose head is no operator
+  -- a left-hand side whose head is no operator
   pub headed-term : repeated_symbols y ≡ [] → (t : Term) → ill_headed_at s (letters_of s t) ≡ place_where
       (not (mentions (names y.operators) (head t).bytes)) (head t).at
   headed-term kept t =
@@ -157,7 +157,7 @@ module _ (y : Spec) (s : Scope) (h : IsScope y s) where
       least_of-map (λ p. place_where (is_unbound bound p.meaning) p.at) (placed_by s) (flat t)
       ∙ least_of-flat (λ w n. place_where (is_unbound bound (meaning_of s w.bytes)) w.at) t
 
-  -- a name that stands for a variable is one
+  -- a name that represents a variable is one
   pub variable-name : taken_variables y ≡ [] → (name : List ℕ) → is_unbound (λ _. false) (meaning_of s name) ≡ is_variable y name
   variable-name kept name = by_symbol (symbol y name) refl
     where

@@ -1,4 +1,4 @@
--- The substitution that is found is the one under which the left side is the tree.
+-- The substitution that is found is the one under which the left-hand side is the tree.
 use Rattle.std.proofs.Common.{refl, sym, ap, subst, ◌∙◌}
 use Rattle.std.specs.Prelude.{ℕ, ◌≡◌, Bool, true, false, List, [], ◌∷◌, ◌++◌, Option, Some, None, MatchBool, bytes_eq}
 use Rattle.rx_term.specs.Tree.{Tree, more, tree_eq}

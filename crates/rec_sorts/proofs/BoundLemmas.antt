@@ -1,4 +1,4 @@
--- Which variables a left side binds, by the letters and by the rules.
+-- Which variables a left-hand side binds, by the items and by the rules.
 use Rattle.std.proofs.Common.{refl, sym, ap, ◌∙◌}
 use Rattle.std.proofs.lemmas.Bool.{false≢true}
 use Rattle.std.specs.Prelude.{ℕ, ◌≡◌, Bool, true, false, not, cond, ◌&&◌, ◌||◌, List, [], ◌∷◌, ◌++◌, Option, Some, None, map, filter, bytes_eq}
@@ -82,7 +82,7 @@ module _ (y : Spec) (s : Scope) (h : IsScope y s) (kept : taken_variables y ≡ 
       ∙ any-flat (λ w. bytes_eq w.bytes name) left
       ∙ any-heads (subterms left) name
 
-  -- a name stands for a variable that is not bound
+  -- a name represents a variable that is not bound
   unbound-name : (left : Term) (name : List ℕ) → is_unbound (binds_variable (letters_of s left)) (meaning_of s name) ≡ is_variable y name && not
       (mentions (heads (subterms left)) name)
   unbound-name left name =

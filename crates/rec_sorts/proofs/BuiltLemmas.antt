@@ -103,7 +103,7 @@ name_of : Tree → List ℕ
 name_of (Appl name quoted args anns) = name
 name_of t = []
 
--- a left side that is no variable has the head of the trees that it matches
+-- a left-hand side that is no variable has the head of the trees that it matches
 same_head : (y : Spec) (l : Term) (name : List ℕ) (us : Trees) (s : Substitution) → is_variable y (head l).bytes ≡ false
     → binds y l (application name us) ≡ Some s → (head l).bytes ≡ name
 unfolding name_of Binds_only

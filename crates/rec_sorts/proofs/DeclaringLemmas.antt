@@ -122,7 +122,7 @@ unnumbered-sorts sorts ws =
 none_within : (source : List ℕ) (xs : List Span) → xs ≡ [] → All (Within source) xs
 none_within source xs e = subst (All (Within source)) (sym e) (λ k d l. absurd (omega arith))
 
--- where nothing was declared before, all that a specification declares is read
+-- if nothing was declared before, all that a specification declares is read
 pub declared-read : (y : Spec) (source : List ℕ) (numbers : Numbers) (d₀ d₁ d₂ d₃ : Declared) (n : ℕ) → n ≡ length d₂.words.items
     → numbers ≡ first_at y.sorts → d₀.words.items ≡ [] → d₀.sorts.items ≡ [] → d₀.arguments.items ≡ [] → d₀.unknown ≡ None
     → Adds source numbers d₀ d₁ (added_by_symbols numbers y.constructors) → Adds source numbers d₁ d₂ (added_by_symbols numbers y.operators)

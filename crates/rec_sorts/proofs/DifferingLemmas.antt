@@ -30,7 +30,7 @@ not_repeated before w ws e = by (mentions before w.bytes) e
     by true e = absurd (cc e)
     by false e = e
 
--- a word that is not repeated stands nowhere behind
+-- a word that is not repeated stands nowhere after
 clash : (w : Word) (before ws : List Word) (j : ℕ) → j < length ws → repeated (w ∷ before) ws ≡ [] → w.bytes ≡ bytes_at ws j → ⊥
 clash w before ws j h e same =
     let apart : bytes_eq w.bytes (bytes_at ws j) || mentions before (bytes_at ws j) ≡ false =

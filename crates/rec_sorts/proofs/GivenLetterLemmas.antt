@@ -1,4 +1,4 @@
--- The letters of the nodes of given terms that keep the rules are those of the terms.
+-- The items of the nodes of input terms that keep the rules are those of the terms.
 use Rattle.std.proofs.Common.{refl, sym, ap, subst, ◌∙◌, arith}
 use Rattle.std.proofs.lemmas.List.{map-append, reverse-append, take_all}
 use Rattle.std.proofs.lemmas.Simd.{map-map}
@@ -84,7 +84,7 @@ none_passes p (x ∷ xs) e = by_test (p x) refl e (λ k. none_passes p xs k)
     by_test false is e later = (is, later e)
 
 module _ (y : Spec) (s : Scope) (h : IsScope y s) where
-  -- the letter of a node that stands for a symbol
+  -- the item of a node that represents a symbol
   pub letter-node : (t : Tree) (d : Declaration) → tree_symbol y t ≡ Some d
       → IsMeaning y (node_letter s t).meaning × (named_by y (node_letter s t) ≡ node_named t)
   letter-node (Int z anns) d e = absurd (cc e)
@@ -118,7 +118,7 @@ module _ (y : Spec) (s : Scope) (h : IsScope y s) where
         ap (λ (n : Named). n ∷ map (named_by y) (map (node_letter s) ts)) one.1 ∙ ap (λ (ns : List Named). node_named t ∷ ns) rest.1,
       )
 
-  -- the letters of a term whose nodes are declared
+  -- the items of a term whose nodes are declared
   letters-term : (t : Tree) (ls : List Letter) → list_any (is_undeclared y) (nodes t) ≡ false → ls ≡ reverse (map (node_letter s) (backwards t))
       → AreLetters y ls (term_of t)
   letters-term t ls known e =
@@ -146,7 +146,7 @@ module _ (y : Spec) (s : Scope) (h : IsScope y s) where
       let others : map items vs ≡ map (λ u. reverse (map (node_letter s) (backwards u))) ts = cc e in
       (letters-term t (items v) each.0 first, letters-terms items vs ts each.1 others)
 
--- where no test passes, the third does not
+-- if no test passes, the third does not
 third_failed : (a b c d e : Bool) → first_passed 2 (a ∷ b ∷ c ∷ d ∷ e ∷ []) ≡ None → c ≡ false
 third_failed true b c d e h = absurd (cc h)
 third_failed false true c d e h = absurd (cc h)
@@ -161,7 +161,7 @@ kept-declared y ts e =
     third_failed (list_any is_no_application all) (list_any is_annotated inner) (list_any (is_undeclared y) all) (list_any (is_ill_filled y) all)
     (list_any (is_ill_sorted y) all) e
 
--- the letters of the nodes that a walk found
+-- the items of the nodes that a walk found
 pub letters-walked : (s : Scope) (w : Store) (found items : List Term) (term : Term) (ls : List Letter) (i : ℕ)
     → ls ≡ map (λ r. node_letter s (held_tree w r)) (take i items) → length items ≤ i → items ≡ found
     → held_trees w found ≡ backwards (held_tree w term) → ls ≡ map (node_letter s) (backwards (held_tree w term))
@@ -185,7 +185,7 @@ broken_in y o = elim o [ None ↦ Some 1 | Some ts ↦ broken_by_elements y ts ]
 broken-listed : (y : Spec) (t : Tree) (ts : List Tree) → elements t ≡ Some ts → broken_by_terms y t ≡ None → broken_by_elements y ts ≡ None
 broken-listed y t ts e h = sym (ap (broken_in y) e) ∙ h
 
--- the letters of a list's terms
+-- the items of a list's terms
 pub letters-listed : (y : Spec) (s : Scope) → IsScope y s → (w : Store) (list : Term) {V : Type 0} (letters_of : V → List Letter) (vs : List V)
     (items : List Term) → IfSome (tree_at w list) (λ t. broken_by_terms y t ≡ None)
     → map letters_of vs ≡ map (λ r. reverse (map (node_letter s) (backwards (held_tree w r)))) items

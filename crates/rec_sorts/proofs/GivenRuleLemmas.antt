@@ -1,4 +1,4 @@
--- What the numbers of what is declared show of given terms is what their rules ask.
+-- What the numbers of what is declared show of input terms is what their rules ask.
 use Rattle.std.proofs.Common.{refl, sym, ap, ◌∙◌, arith}
 use Rattle.std.proofs.lemmas.List.{length-map}
 use Rattle.std.specs.Prelude.{ℕ, ◌≡◌, ◌<◌, ◌&&◌, ◌||◌, Bool, true, false, not, List, [], ◌∷◌, ◌++◌, Option}
@@ -38,7 +38,7 @@ any-same : {X : Type 0} (p q : X → Bool) → ((x : X) → p x ≡ q x) → (xs
 any-same p q same [] = refl
 any-same p q same (x ∷ xs) = ap (λ b. b || list_any p xs) (same x) ∙ ap (λ b. q x || b) (any-same p q same xs)
 
--- the symbol of a name, where it is asked for
+-- the symbol of a name, if it is asked for
 abbrev pub declared_by : Spec → Bool → List ℕ → Option Declaration
 declared_by y b name = elim b [ true ↦ symbol y name | false ↦ None ]
 
@@ -75,14 +75,14 @@ module _ (y : Spec) (s : Scope) (h : IsScope y s) where
   unmeant_by true name e = ap symbol_alone (meaning-variable y s h name e) ∙ alone-variable (first_at (variable_words y.variables) name)
   unmeant_by false name e = refl
 
-  -- a tree of a declared symbol stands for it
+  -- a tree of a declared symbol represents it
   pub stands : (t : Tree) (d : Declaration) → tree_symbol y t ≡ Some d → Stands y s (tree_name t) d (symbol_at s t)
   stands (Appl name quoted args anns) d e = stands_by (beq quoted (not (plain_name name))) name d e
   stands (Int z anns) d e = absurd (cc e)
   stands (Items items anns) d e = absurd (cc e)
   stands (Hole inner anns) d e = absurd (cc e)
 
-  -- another tree stands for none
+  -- another tree represents none
   pub unmeant : (t : Tree) → tree_symbol y t ≡ None → symbol_at s t ≡ None
   unmeant (Appl name quoted args anns) e = unmeant_by (beq quoted (not (plain_name name))) name e
   unmeant (Int z anns) e = refl

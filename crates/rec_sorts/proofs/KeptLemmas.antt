@@ -86,11 +86,11 @@ heads_apply : (y : Spec) (rs : List Rule) → Every (λ w. mentions (names (symb
 heads_apply y [] h k = tt
 heads_apply y (r ∷ rs) h k = (no_variable y h (head r.left).bytes k.0, heads_apply y rs h k.1)
 
--- no left side is a variable
+-- no left-hand side is a variable
 abbrev pub LeftSidesApply : Spec → Type 0
 LeftSidesApply y = Every (λ r. is_variable y (head r.left).bytes ≡ false) y.rules
 
--- where all rules are kept, no left side is a variable
+-- if all rules are kept, no left-hand side is a variable
 pub left_sides_apply : (y : Spec) → fault y ≡ None → LeftSidesApply y
 left_sides_apply y e =
     let kept : Every (λ b. b.words ≡ []) (all_rules y) = all_kept (all_rules y) e in
@@ -119,7 +119,7 @@ no_later before ws w k e h same =
     cc (sym (ap (λ b. b || mentions before w.bytes) (bytes_eq-self w.bytes))
     ∙ not_before (w ∷ before) ws w.bytes (repeated_none (w ∷ before) ws e) (ap (mentions ws) same ∙ mentions-at ws k h))
 
--- where no word repeats, words with one name have one number
+-- if no word repeats, words with one name have one number
 pub one_number : (before ws : List Word) (j k : ℕ) → repeated before ws ≡ [] → j < length ws → k < length ws → bytes_at ws j ≡ bytes_at ws k → j ≡ k
 one_number before [] j k e g h same = absurd (omega arith)
 one_number before (w ∷ ws) zero zero e g h same = refl
@@ -167,11 +167,11 @@ module _ (y : Spec) (kept : fault y ≡ None) where
           by_test true h e later = (h, later e)
           by_test false h e later = absurd (cc e)
 
-  -- the head of each left side is an operator
+  -- the head of each left-hand side is an operator
   pub operators_head : Every (λ w. mentions (names y.operators) w.bytes ≡ true) (map (λ r. head r.left) y.rules)
   operators_head = missing_none (names y.operators) (map (λ r. head r.left) y.rules) kept_lists.1.1.1.1.1.1.1.0
 
-  -- the variables of a right side and of conditions occur in the left side
+  -- the variables of a right-hand side and of conditions occur in the left-hand side
   pub variables_bound : Every (λ r. Every (λ w. mentions (heads (subterms r.left)) w.bytes ≡ true)
       (variables_among y (heads (everywhere (r.right ∷ condition_terms r.conditions))))) y.rules
   variables_bound = bound_each y.rules kept_lists.1.1.1.1.1.1.1.1.1.0

@@ -44,7 +44,7 @@ or_false true b e = absurd (cc e)
 abbrev repeated_test : Bool → Word → List Word → List Word → List Word
 repeated_test b w before ws = elim b [ true ↦ w ∷ repeated before ws | false ↦ repeated (w ∷ before) ws ]
 
--- where no word repeats, a name is not both among the first ones and the others
+-- if no word repeats, a name is not both among the first ones and the others
 pub apart : (before xs ys : List Word) (name : List ℕ) → repeated before (xs ++ ys) ≡ [] → mentions ys name ≡ true
     → (mentions xs name ≡ false) × (mentions before name ≡ false)
 apart before [] ys name e h = (refl, not_before before ys name (repeated_none before ys e) h)
@@ -79,7 +79,7 @@ module _ (y : Spec) (s : Scope) (h : IsScope y s) where
   operator-variable None = refl
   operator-variable (Some k) = refl
 
-  -- a name is an operator's where it stands for one
+  -- a name is an operator's if it represents one
   pub is_operator-name : repeated_symbols y ≡ [] → (name : List ℕ) → is_operator s (meaning_of s name) ≡ mentions (names y.operators) name
   is_operator-name distinct name = by_symbol (symbol y name) refl
     where
@@ -136,7 +136,7 @@ module _ (y : Spec) (s : Scope) (h : IsScope y s) where
           ∙ mentions-declared (symbols y) name ∙ ap is_some e))
       by_test false m = m
 
-  -- a name is a variable's where it stands for one
+  -- a name is a variable's if it represents one
   pub is_unbound-name : taken_variables y ≡ [] → (bound : ℕ → Bool) (name : List ℕ)
       → is_unbound bound (meaning_of s name) ≡ is_variable y name && is_unbound bound (meaning_of s name)
   is_unbound-name distinct bound name = by_symbol (symbol y name) refl
@@ -162,7 +162,7 @@ module _ (y : Spec) (s : Scope) (h : IsScope y s) where
           ∙ by_number (first_at (variable_words y.variables) name) (is_variable y name) (is_some-first_at (variable_words y.variables) name)
           ∙ ap (λ (o : Option Meaning). is_variable y name && is_unbound bound o) (sym m)
 
--- a sort is declared, where there is one
+-- a sort is declared, if there is one
 abbrev pub IsKnown : List Word → Option (List ℕ) → Type 0
 IsKnown sorts None = Unit {0}
 IsKnown sorts (Some b) = mentions sorts b ≡ true

@@ -1,4 +1,4 @@
--- What numbers and letters stand for, in one specification.
+-- What numbers and items represent, in one specification.
 use Rattle.std.proofs.Common.{refl, arith, ◌<◌}
 use Rattle.std.specs.Prelude.{ℕ, List, [], ◌∷◌, codes, ◌≡◌}
 use Rattle.rec_syntax.specs.Syntax.{Condition, Spec}
@@ -42,16 +42,16 @@ of_one_argument = refl
 two_variables : variable_count good ≡ 2
 two_variables = refl
 
--- a name with so many arguments behind it
+-- a name with so many arguments after it
 abbrev n : List ℕ → ℕ → Named
 n name arguments = record { name = name; arguments = arguments }
 
--- f(g(X),a): the letters of arguments stand before their head's, from left to right
+-- f(g(X),a): the items of arguments are before their head's, from left to right
 named_nested : named (term 0 "f" (term 2 "g" (term 4 "X" [] ∷ []) ∷ term 7 "a" [] ∷ []))
     ≡ n (codes "X") 0 ∷ n (codes "g") 1 ∷ n (codes "a") 0 ∷ n (codes "f") 2 ∷ []
 named_nested = refl
 
--- a letter of a number that no symbol has stands for nothing, not even for a word of no bytes
+-- an item of a number that no symbol has represents nothing, not even for a word of no bytes
 unmeant : AreLetters good (record { meaning = Symbol 3; count = 0 } ∷ []) (term 0 "" []) → ⊥
 unmeant h = let meant : 3 < 3 = h.0 0 (record { meaning = Symbol 3; count = 0 }) (omega arith) in omega (arith, meant)
 
@@ -64,6 +64,6 @@ left_over h = h.1
 right_over : Pairwise {X = ℕ} {Y = ℕ} (λ j k. j ≡ k) (1 ∷ []) (1 ∷ 2 ∷ []) → ⊥
 right_over h = h.1
 
--- a condition's letters say whether it asks for equal values
+-- a condition's items say whether it asks for equal values
 same_question : (y : Spec) (l : LetterCondition) (c : Condition) → IsLetterCondition y l c → l.equal ≡ c.equal
 same_question y l c h = h.2

@@ -1,4 +1,4 @@
--- Where all rules are kept, the letters that were read are those of the specification.
+-- Where all rules are kept, the items that were read are those of the specification.
 use Rattle.std.proofs.Common.{refl, sym, ap, subst, ◌∙◌, arith}
 use Rattle.std.proofs.lemmas.Bool.{false≢true}
 use Rattle.std.proofs.lemmas.List.{length-map, get_or_append_left}
@@ -72,7 +72,7 @@ pair_each P R Q f [] (y ∷ ys) h k = absurd h
 pair_each P R Q f (x ∷ xs) [] h k = absurd h
 
 module _ (y : Spec) (s : Scope) (h : IsScope y s) where
-  -- what a name stands for, where it is declared
+  -- what a name represents, if it is declared
   pub record StandsFor (name : List ℕ) : Type 0 where
     pub meaning : Meaning
     pub stands : meaning_of s name ≡ Some meaning
@@ -124,7 +124,7 @@ module _ (y : Spec) (s : Scope) (h : IsScope y s) where
             ∙ ap (λ (zs : List Named). named_node n ∷ zs) rest.1,
       )
 
-  -- the letters of a term whose words are declared
+  -- the items of a term whose words are declared
   are_letters : (ls : List Letter) (t : Term) → SpellsTerm s ls t → unknown_among (letters_of s t) ≡ None → AreLetters y ls t
   are_letters ls t e known =
       let all = letters_each (flat t) (known_each (flat t) known) in
@@ -158,14 +158,14 @@ module _ (y : Spec) (s : Scope) (h : IsScope y s) where
         let every : Every (λ b. b.words ≡ []) (all_rules y) = all_kept (all_rules y) kept in
         both_none (rules_places s y.rules).unknown (open_terms_places s y.terms).unknown (unknown-found y s h ∙ ap least_place every.1.1.1.1.0)
 
-    -- the letters of the rules
+    -- the items of the rules
     pub rules-lettered : (ls : List LetterRule) → Pairwise (SpellsRule s) ls y.rules → Pairwise (IsLetterRule y) ls y.rules
     rules-lettered ls spelled =
         pair_each (SpellsRule s) (IsLetterRule y) (λ r. (rule_places s r).unknown ≡ None) is_letter_rule ls y.rules spelled
         (none_each (λ (r : Rule). (rule_places s r).unknown) y.rules
         (sym (field-over (λ p. p.unknown) (λ p q. refl) refl (rule_places s) y.rules) ∙ all_known.0))
 
-    -- the letters of the terms to evaluate
+    -- the items of the terms to evaluate
     pub terms-lettered : {V : Type 0} (items : V → List Letter) (ls : List V) → Pairwise (λ v t. SpellsTerm s (items v) t) ls y.terms
         → Pairwise (λ v t. AreLetters y (items v) t) ls y.terms
     terms-lettered items ls spelled =

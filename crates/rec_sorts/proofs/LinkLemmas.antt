@@ -1,4 +1,4 @@
--- Steps of linking a specification's symbols with those of a bank.
+-- Steps of linking a specification's symbols with those of a store.
 use Rattle.std.proofs.Common.{refl, sym, ap, subst, arith, ◌∙◌, length-append, inl, inr}
 use Rattle.std.specs.Prelude.{ℕ, ◌≡◌, ◌≢◌, ◌<◌, ◌≤◌, ◌+◌, ◌⊎◌, Bool, true, false, List, [], ◌∷◌, ◌++◌, Option, Some, None, length, take, get_or, nat_eq}
 use Rattle.std.proofs.lemmas.Bool.{cases_eq, eqb-true}
@@ -18,7 +18,7 @@ use Rattle.rec_sorts.specs.Linked.{signature, AllDiffer, NumberOf, NumbersOf, Ha
 use Rattle.rec_sorts.proofs.KeptLemmas.{all_kept}
 use Rattle.rec_sorts.proofs.DifferingLemmas.{differ}
 
--- the first of a specification's symbols in a bank
+-- the first of a specification's symbols in a store
 pub record LinkedSoFar (y : Spec) (old now : Store) (ss : List bank.Symbol) (n : ℕ) : Type 0 where
   pub counted : length ss ≡ n
   pub within : n ≤ length (symbols y)
@@ -50,7 +50,7 @@ more-symbols same adds = record {
   symbols = λ t h e. kept-Adds adds t h (same.symbols t h e);
 }
 
--- what was added, where it was not kept, changes no more than that
+-- what was added, if it was not kept, changes no more than that
 pub has-more : (y : Spec) (old now new : Store) (ss : List bank.Symbol) (n : ℕ) (g : Signature) (s : bank.Symbol) → LinkedSoFar y old now ss n
     → Adds now new g s → HasMoreSymbols old new
 has-more y old now new ss n g s so adds = more-symbols so.same adds
@@ -70,7 +70,7 @@ linked-next y old now new ss ss' n g s so lt adds is split = record {
     by_place k d (inr ne) h = let below : k < n = omega (arith, h, ne) in
         ap (signature_of new) (front ss ss' n s so.counted split k d below) ∙ kept-Adds adds (get_or ss k d) (signature y k) (so.linked k d below)
 
--- no two of a specification's symbols in a bank are one
+-- no two of a specification's symbols in a store are one
 pub linked-differ : (y : Spec) (old now : Store) (ss : List bank.Symbol) (n : ℕ) → fault y ≡ None → LinkedSoFar y old now ss n → AllDiffer ss
 linked-differ y old now ss n kept so i j d hi hj e =
     let c = so.counted in

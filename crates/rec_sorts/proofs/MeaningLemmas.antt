@@ -1,4 +1,4 @@
--- What a name stands for, its sort and those of its arguments are as the specification declares them.
+-- What a name represents, its sort and those of its arguments are as the specification declares them.
 use Rattle.std.proofs.Common.{refl, sym, ap, subst, ◌∙◌, arith}
 use Rattle.std.proofs.lemmas.Bool.{false≢true, lt-ltb, le-ltb}
 use Rattle.std.proofs.lemmas.List.{length-map, get_or-map, get_or_append_left, get_or-append-add}
@@ -137,7 +137,7 @@ item_at-shifted xs rest n (Some k) e =
     let moved : k + n ≡ length xs + k = omega arith in
     ap (λ (j : ℕ). get_or (xs ++ rest) j None) moved ∙ get_or-append-add xs rest k None
 
--- a variable's sort stands at its number
+-- a variable's sort is at its number
 item_at-variable : (g : Numbers) (vs : List Variables) (name : List ℕ)
     → item_at (variable_sorts g vs) (first_at (variable_words vs) name) ≡ option_and_then g (variable_sort vs name)
 item_at-variable g [] name = refl
@@ -203,7 +203,7 @@ module _ (y : Spec) (s : Scope) (h : IsScope y s) where
       ap (λ (g : Numbers). option_map (numbered s.symbols) (g name)) h.words_numbered
       ∙ ap (λ (n : ℕ). option_map (numbered n) (first_at words name)) h.symbols_counted
 
-  -- a name that is declared as a symbol stands for it
+  -- a name that is declared as a symbol represents it
   pub meaning-symbol : (name : List ℕ) (d : Declaration) → symbol y name ≡ Some d
       → (k : ℕ) × (k < length (symbols y)) × (first_at words name ≡ Some k) × (get_or (symbols y) k d ≡ d) × (meaning_of s name ≡ Some (Symbol k))
   meaning-symbol name d e =
@@ -216,7 +216,7 @@ module _ (y : Spec) (s : Scope) (h : IsScope y s) where
             ∙ ap (λ (m : Meaning). Some m) (numbered-symbol (length (symbols y)) f.place f.within),
       )
 
-  -- another name stands for a variable, if it is one
+  -- another name represents a variable, if it is one
   pub meaning-variable : (name : List ℕ) → symbol y name ≡ None → meaning_of s name ≡ option_map (λ k. Variable k) (first_at (variable_words y.variables) name)
   meaning-variable name e =
       let long : length (names (symbols y)) ≡ length (symbols y) = length-map (symbols y) (λ d. d.name) in

@@ -62,7 +62,7 @@ pub call_tries : (y : Spec) (n : ℕ) (u : Tree) → Call y n u ≡ Try y y.rule
 unfolding Eval EvalAll Call Try Holds
 call_tries y n u = refl
 
--- where no rule is left, the tree is its own value
+-- if no rule is left, the tree is its own value
 pub try_none : (y : Spec) (n : ℕ) (u : Tree) → Try y [] n u ≡ Done u n
 unfolding Eval EvalAll Call Try Holds
 try_none y n u = refl
@@ -87,19 +87,19 @@ pub try_no_match : (y : Spec) (r : Rule) (rs : List Rule) (n : ℕ) (u : Tree) �
 unfolding Eval EvalAll Call Try Holds
 try_no_match y r rs n u e = ap (at_rule y r rs n u) e
 
--- a rule that matches where nothing is left is over the limit
+-- a rule that matches if nothing is left is over the limit
 pub try_nothing_left : (y : Spec) (r : Rule) (rs : List Rule) (u : Tree) (s : Substitution) → binds y r.left u ≡ Some s → Try y (r ∷ rs) zero u ≡ Over
 unfolding Eval EvalAll Call Try Holds
 try_nothing_left y r rs u s e = ap (at_rule y r rs zero u) e
 
--- a rule that matches spends a step; where its conditions hold, its right side is evaluated
+-- a rule that matches spends a step; where its conditions hold, its right-hand side is evaluated
 pub try_fires : (y : Spec) (r : Rule) (rs : List Rule) (n : ℕ) (u : Tree) (s : Substitution) (left : ℕ) → binds y r.left u ≡ Some s
     → Holds y n s r.conditions ≡ Done true left
     → Try y (r ∷ rs) (suc n) u ≡ Eval y left s r.right
 unfolding Eval EvalAll Call Try Holds
 try_fires y r rs n u s left e h = ap (at_rule y r rs (suc n) u) e ∙ ap (at_conditions y r rs u s) h
 
--- where they fail, the next rule has what they left
+-- if they fail, the next rule has what they left
 pub try_fails : (y : Spec) (r : Rule) (rs : List Rule) (n : ℕ) (u : Tree) (s : Substitution) (left : ℕ) → binds y r.left u ≡ Some s
     → Holds y n s r.conditions ≡ Done false left
     → Try y (r ∷ rs) (suc n) u ≡ Try y rs left u

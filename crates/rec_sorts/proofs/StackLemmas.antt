@@ -18,7 +18,7 @@ pub map-append : {X Y : Type 0} (f : X → Y) (xs ys : List X) → map f (xs ++ 
 map-append f [] ys = refl
 map-append f (x ∷ xs) ys = ap (λ zs. f x ∷ zs) (map-append f xs ys)
 
--- a term's word with what it stands for
+-- a term's word with what it represents
 abbrev pub head_placed : Scope → Term → Placed
 head_placed s (Apply w ts) = placed_by s (record { word = w; count = term_count ts })
 

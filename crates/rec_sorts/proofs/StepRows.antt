@@ -119,7 +119,7 @@ no_step_below : RewritingLaw → (y : Spec) → fault y ≡ None → (n m : ℕ)
     → Eval y n [] t ≡ Done (Appl name false (more (Appl below false none none) none) none) left → fired y m (Appl below false none none) ≡ None
 no_step_below law y kept n m t name below left e = ((law y kept n t _ left e).1 m).1.0
 
--- where no rule has conditions, the value is as many steps away as were spent
+-- if no rule has conditions, the value is as many steps away as were spent
 each_step_counts : RewritingLaw → (y : Spec) → fault y ≡ None → Unconditional y → (n : ℕ) (t : Term) (v : Tree) (left : ℕ)
     → Eval y n [] t ≡ Done v left → Steps y n (n - left) (tree_of t) v
 each_step_counts law y kept h n t v left e =

@@ -1,4 +1,4 @@
--- A loop's turn, where it collects the least place, places or items.
+-- A loop's turn that collects the least place, places or items.
 use Rattle.std.proofs.Common.{refl, sym, ap, ◌∙◌, arith, add-one, drop-cons}
 use Rattle.std.proofs.Common.{inl, inr}
 use Rattle.std.proofs.lemmas.Bool.{cases_lt}
@@ -95,7 +95,7 @@ pub misplaced_end : (s : Scope) (ps : List Placed) (ss : List (Option ℕ)) (n :
     → earlier least (misplaced s (drop n ps) (drop n ss)) ≡ all → least ≡ all
 misplaced_end s ps ss n least all e h = sym (earlier_none least) ∙ ap (earlier least) (sym (misplaced-done s ps ss n e)) ∙ h
 
--- one more letter's arguments are compared, with the heads of the terms before it
+-- one more item's arguments are compared, with the heads of the terms before it
 pub ill_sorted_turn : (s : Scope) (letters : List Placed) (i : ℕ) (d : Placed) (heads cut after : List Placed) (base : ℕ)
     (least found new all : Option ℕ) → i < length letters → d ≡ get_or letters i d → base ≡ length heads - d.count
     → found ≡ misplaced s (drop base heads) (arguments_at s d.meaning) → new ≡ earlier least found → cut ≡ take base heads → after ≡ cut ++ d ∷ []

@@ -1,4 +1,4 @@
--- When numbered declarations are those of a specification.
+-- Numbered declarations that agree with a specification.
 use Rattle.std.specs.Prelude.{ℕ, ◌≡◌, List, ◌∷◌, ◌++◌, ◌≤◌, Option, All, map, flat_map, length}
 use Rattle.rec_syntax.specs.Syntax.{Variables, Spec}
 use Rattle.rec_sorts.specs.Lookup.{symbols, names, variable_words}
@@ -12,11 +12,11 @@ use Rattle.rec_sorts.specs.Declaring.{sort_numbers}
 use Rattle.rec_sorts.specs.declared.scope.Scope.{Scope}
 use Rattle.rec_sorts.specs.declared.symbols.ReadScope.{ReadScope}
 
--- the sorts of variables, by their numbers
+-- variable_sorts numbers vs: the sort numbers of the variables
 abbrev pub variable_sorts : Numbers → List Variables → List (Option ℕ)
 variable_sorts numbers vs = flat_map (λ v. map (λ _. numbers v.sort.bytes) (v.first ∷ v.others)) vs
 
--- the declarations are those of a specification, of whose words the first n are symbols
+-- IsDeclared y source d n: `d` has the declarations of `y`; the first `n` of its names are symbols
 pub record IsDeclared (y : Spec) (source : List ℕ) (d : Declared) (n : ℕ) : Type 0 where
   pub words_read : words_of source d.words.items ≡ names (symbols y) ++ variable_words y.variables
   pub sorts_read : d.sorts.items
@@ -29,7 +29,7 @@ pub record IsDeclared (y : Spec) (source : List ℕ) (d : Declared) (n : ℕ) : 
   pub symbols_read : n ≡ length (symbols y)
   pub symbols_within : n ≤ length d.words.items
 
--- the numbers are those of what a specification declares
+-- IsScope y s: the numbers in `s` are those of the declarations of `y`
 pub record IsScope (y : Spec) (s : Scope) : Type 0 where
   pub words_numbered : given_to s.words ≡ first_at (names (symbols y) ++ variable_words y.variables)
   pub sorts_listed : s.sorts.items
@@ -40,7 +40,8 @@ pub record IsScope (y : Spec) (s : Scope) : Type 0 where
   pub constructors_counted : s.constructors ≡ length y.constructors
   pub symbols_counted : s.symbols ≡ length (symbols y)
 
--- what a specification declares was read, and where its declarations break a rule
+-- IsReadScope y source r: `r` has the declarations of `y`, and the offsets at which they violate
+-- rules
 pub record IsReadScope (y : Spec) (source : List ℕ) (r : ReadScope) : Type 0 where
   pub source_read : r.scope.source.now ≡ source
   pub scope_read : IsScope y r.scope

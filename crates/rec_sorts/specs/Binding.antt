@@ -1,4 +1,5 @@
--- REC terms as trees, substitutions, and which substitution makes a left side a given tree.
+-- REC terms as trees, substitutions, and matching: the substitution that makes a left-hand side
+-- equal to a given tree.
 use Rattle.std.specs.Prelude.{ℕ, true, false, not, List, [], ◌∷◌, ◌++◌, Option, Some, None, drop}
 use Rattle.std.specs.Prelude.{suc, bytes_eq}
 use Rattle.rx_term.specs.Tree.{Tree, Trees, Appl, none, more, tree_eq}
@@ -16,17 +17,17 @@ pub record Bound : Type 0 where
 abbrev pub Substitution : Type 0
 Substitution = List Bound
 
--- the value of a name; none, where the name is not bound
+-- value_of s name: the value of a name; none if it is not bound
 abbrev pub value_of : Substitution → List ℕ → Option Tree
 value_of [] name = None
 value_of (b ∷ bs) name =
     elim (bytes_eq b.name name) [ true ↦ Some b.value | false ↦ value_of bs name ]
 
--- a symbol of this name applied: its name stands unquoted where it may
+-- application name ts: a symbol applied to arguments; the name is quoted only if it is not plain
 abbrev pub application : List ℕ → Trees → Tree
 application name ts = Appl name (not (plain_name name)) ts none
 
--- a term with the values of its bound variables, as a tree
+-- instance s t: the tree of a term, with the values of its bound variables
 abbrev mutual
   pub instance : Substitution → Term → Tree
   instance s (Apply w ts) =
@@ -36,16 +37,17 @@ abbrev mutual
   instances s Terms.none = none
   instances s (Terms.more t ts) = more (instance s t) (instances s ts)
 
--- a ground term as a tree
+-- tree_of t: the tree of a ground term
 abbrev pub tree_of : Term → Tree
 tree_of t = instance [] t
 
--- a name is bound to a value at the end, unless it is bound before
+-- bind_first s name v: adds a binding at the end, unless the name is bound already
 abbrev pub bind_first : Substitution → List ℕ → Tree → Substitution
 bind_first s name v =
     elim (value_of s name) [ Some u ↦ s | None ↦ s ++ (record { name = name; value = v } ∷ []) ]
 
--- each variable of a left side with the part of the tree at its first place
+-- parts_at_variables y s l u: binds each variable of a left-hand side to the part of the tree at
+-- its first occurrence
 abbrev mutual
   pub parts_at_variables : Spec → Substitution → Term → Tree → Substitution
   parts_at_variables y s (Apply w ts) u = elim (is_variable y w.bytes) [
@@ -58,19 +60,21 @@ abbrev mutual
       (parts_at_variables y s t u) ts us
   parts_at_variables_all y s _ _ = s
 
--- the substitution under which a left side is the tree; none, where there is none
+-- binds y l u: the substitution that makes the left-hand side equal to the tree; none if there is
+-- none
 abbrev pub binds : Spec → Term → Tree → Option Substitution
 binds y l u =
     let s = parts_at_variables y [] l u in
     elim (tree_eq (instance s l) u) [ true ↦ Some s | false ↦ None ]
 
--- a rule by its number, from 0 in textual order, and the values under which its left side is the
--- tree
+-- a rule by its number, from 0 in the order of the text, and the values under which its left-hand
+-- side equals the tree
 pub record NumberedMatch : Type 0 where
   pub number : ℕ
   pub values : Substitution
 
--- the first of some rules, the first of which has this number, that matches a tree
+-- first_match y number rs u: the first of these rules that matches a tree; the first of them has
+-- this number
 abbrev pub first_match : Spec → ℕ → List Rule → Tree → Option NumberedMatch
 first_match y number [] u = None
 first_match y number (r ∷ rs) u = elim (binds y r.left u) [
@@ -78,6 +82,6 @@ first_match y number (r ∷ rs) u = elim (binds y r.left u) [
   | None ↦ first_match y (suc number) rs u
 ]
 
--- the least rule at or after a number that matches a tree
+-- next_match y from u: the first rule with a number of at least `from` that matches a tree
 abbrev pub next_match : Spec → ℕ → Tree → Option NumberedMatch
 next_match y from u = first_match y from (drop from y.rules) u

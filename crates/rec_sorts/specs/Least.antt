@@ -1,35 +1,35 @@
--- The least of some places, none where there is no place.
+-- The least of some offsets; none if there is no offset.
 use Rattle.std.specs.Prelude.{ℕ, Bool, true, false, ◌&&◌, List, [], ◌∷◌, Option, Some, None, min}
 use Rattle.std.specs.Prelude.{is_none}
 use Rattle.rec_syntax.specs.Tokens.{Word}
 use Rattle.rec_sorts.specs.declared.places.TermPlaces.{TermPlaces}
 
--- the lesser of two places
+-- earlier p q: the smaller of two offsets
 abbrev pub earlier : Option ℕ → Option ℕ → Option ℕ
 earlier (Some p) (Some q) = Some (min p q)
 earlier (Some p) None = Some p
 earlier None q = q
 
--- the least of the places of some things
+-- least_of f xs: the least offset of some items
 abbrev pub least_of : {X : Type 0} → (X → Option ℕ) → List X → Option ℕ
 least_of f [] = None
 least_of f (x ∷ xs) = earlier (f x) (least_of f xs)
 
--- the least place of some words
+-- least_place ws: the least offset of some names
 abbrev pub least_place : List Word → Option ℕ
 least_place ws = least_of (λ w. Some w.at) ws
 
--- the place, where the flag is set
+-- place_where b at: the offset if `b` is true
 abbrev pub place_where : Bool → ℕ → Option ℕ
 place_where true at = Some at
 place_where false at = None
 
--- no rule is broken
+-- is_nowhere p: no rule is violated
 abbrev pub is_nowhere : TermPlaces → Bool
 is_nowhere p = is_none p.unknown && is_none p.ill_filled && is_none p.ill_sorted
     && is_none p.ill_headed && is_none p.unlike && is_none p.unbound && is_none p.free
 
--- the lesser place for each rule
+-- joined p q: the smaller offset for each rule
 abbrev pub joined : TermPlaces → TermPlaces → TermPlaces
 joined p q = record {
   unknown = earlier p.unknown q.unknown;

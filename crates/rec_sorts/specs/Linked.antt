@@ -1,4 +1,4 @@
--- The symbols of a specification in a bank.
+-- The symbols of a specification in a term store.
 use Rattle.std.specs.Prelude.{ℕ, ◌≡◌, ◌<◌, not, List, Option, Some, length, get_or}
 use Rattle.rx_term.specs.Name.{Signature, plain_name}
 use Rattle.rx_term.specs.Store.{Store, signature_of}
@@ -8,7 +8,7 @@ use Rattle.rec_sorts.specs.Lookup.{symbols}
 use Rattle.rec_sorts.specs.Numbering.{name_of, arity_of}
 use Rattle.rec_sorts.specs.declared.letters.Meaning.TheVariants.{Symbol}
 
--- what a symbol of a specification stands for in a bank: its name is quoted unless it is plain
+-- signature y k: the signature of a symbol in a store: its name is quoted only if it is not plain
 abbrev pub signature : Spec → ℕ → Signature
 signature y k = record {
   name = name_of y (Symbol k);
@@ -16,27 +16,27 @@ signature y k = record {
   arity = arity_of y k;
 }
 
--- these are the symbols of a specification in a bank, by their numbers
+-- AreLinked y w ss: `ss` are the symbols of the specification in store `w`, by their numbers
 pub record AreLinked (y : Spec) (w : Store) (ss : List bank.Symbol) : Type 0 where
   pub counted : length ss ≡ length (symbols y)
   pub linked : (k : ℕ) (d : bank.Symbol) → k < length (symbols y)
       → signature_of w (get_or ss k d) ≡ Some (signature y k)
 
--- the one place of a symbol in a list; none, where it is not there
+-- NumberOf ss s o: `o` is the one index of `s` in the list; none if it is not in the list
 pub record NumberOf (ss : List bank.Symbol) (s : bank.Symbol) (o : Option ℕ) : Type 0 where
   pub found : (k : ℕ) → o ≡ Some k → (k < length ss) × (get_or ss k s ≡ s)
   pub each : (k : ℕ) → k < length ss → get_or ss k s ≡ s → o ≡ Some k
 
--- no symbol stands at two places of a list
+-- AllDiffer ss: no symbol is in the list twice
 abbrev pub AllDiffer : List bank.Symbol → Type 0
 AllDiffer ss = (i j : ℕ) (d : bank.Symbol) → i < length ss → j < length ss
     → get_or ss i d ≡ get_or ss j d → i ≡ j
 
--- symbols have these numbers
+-- NumbersOf ss numbers: `numbers` has the index of each symbol in the list
 abbrev pub NumbersOf : List bank.Symbol → (ℕ → Option ℕ) → Type 0
 NumbersOf ss numbers = (s : bank.Symbol) → NumberOf ss s (numbers s.0)
 
--- nothing changes but that there may be more symbols
+-- HasMoreSymbols old new: the stores are equal, except that `new` can have more symbols
 pub record HasMoreSymbols (old new : Store) : Type 0 where
   pub content : new.content ≡ old.content
   pub roots : new.roots ≡ old.roots

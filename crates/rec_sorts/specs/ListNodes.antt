@@ -1,4 +1,4 @@
--- The nodes that are found in a list of terms.
+-- The subterms of a list of terms.
 use Rattle.std.specs.Prelude.{◌≡◌, List, flat_map}
 use Rattle.rx_term.specs.Tree.{Tree, to_list}
 use Rattle.rx_term.specs.Store.{Store}
@@ -7,7 +7,7 @@ use Rattle.rec_sorts.specs.TermRules.{arguments}
 use Rattle.rec_sorts.specs.Walking.{unstacked}
 use Rattle.rec_sorts.specs.declared.walk.ListNodes.{ListNodes}
 
--- they are the nodes of these terms, and those of the terms' arguments
+-- AreNodes w ts n: `n` has the subterms of these terms, and the subterms of their arguments
 pub record AreNodes (w : Store) (ts : List Tree) (n : ListNodes) : Type 0 where
   pub all_held : AllHeld w n.all.items
   pub inner_held : AllHeld w n.inner.items

@@ -1,7 +1,6 @@
--- What numbered words of a specification's terms stand for.
---     name_of y m            the name of the symbol or variable that a number stands for
---     AreLetters y ls t      the letters of a term: those of its arguments from left to right, and
---                            then its head's
+-- The symbols and variables that the numbers in postfix items denote. name_of gives the name of a
+-- symbol or variable by its number. AreLetters relates a term to its postfix items: those of its
+-- arguments from left to right, then that of its root.
 use Rattle.std.specs.Prelude.{ℕ, ◌≡◌, ◌<◌, ◌∷◌, ◌++◌, List, [], All, map, length, get_or}
 use Rattle.rec_syntax.specs.Tokens.{Word}
 use Rattle.rec_syntax.specs.Syntax.{Term, Terms, Apply, none, more, Condition, Rule, Spec}
@@ -12,26 +11,26 @@ use Rattle.rec_sorts.specs.declared.letters.Meaning.TheVariants.{Symbol, Variabl
 use Rattle.rec_sorts.specs.declared.letters.LetterRule.{LetterRule}
 use Rattle.rec_sorts.specs.declared.letters.LetterCondition.{LetterCondition}
 
--- the bytes of the word at a number; none, where there is no such word
+-- bytes_at ws k: the bytes of the name with index `k`; empty if there is no such name
 abbrev pub bytes_at : List Word → ℕ → List ℕ
 bytes_at ws k = get_or (map (λ w. w.bytes) ws) k []
 
--- the name that a number stands for
+-- name_of y m: the name of a symbol or variable
 abbrev pub name_of : Spec → Meaning → List ℕ
 name_of y (Symbol k) = bytes_at (names (symbols y)) k
 name_of y (Variable k) = bytes_at (variable_words y.variables) k
 
--- there is a symbol, or a variable, of this number
+-- IsMeaning y m: there is a symbol, or a variable, with this number
 abbrev pub IsMeaning : Spec → Meaning → Type 0
 IsMeaning y (Symbol k) = k < length (symbols y)
 IsMeaning y (Variable k) = k < length (variable_words y.variables)
 
--- a name, and how many arguments follow it
+-- a name, and the number of its arguments
 pub record Named : Type 0 where
   pub name : List ℕ
   pub arguments : ℕ
 
--- the names of a term: those of its arguments from left to right, and then its head's
+-- named t: the names of a term in postfix order
 abbrev mutual
   pub named : Term → List Named
   named (Apply w ts) = named_all ts ++ (record { name = w.bytes; arguments = count ts }) ∷ []
@@ -40,32 +39,34 @@ abbrev mutual
   named_all none = []
   named_all (more t ts) = named t ++ named_all ts
 
--- what a letter stands for
+-- named_by y l: the name and number of arguments of a postfix item
 abbrev pub named_by : Spec → Letter → Named
 named_by y l = record { name = name_of y l.meaning; arguments = l.count }
 
--- the letters of a term
+-- AreLetters y ls t: `ls` is the postfix form of `t`
 abbrev pub AreLetters : Spec → List Letter → Term → Type 0
 AreLetters y ls t = All (λ l. IsMeaning y l.meaning) ls × (map (named_by y) ls ≡ named t)
 
--- it holds of the elements of two lists in pairs, and none is left over
+-- Pairwise P xs ys: the lists have the same length, and `P` holds for each pair of elements
 abbrev pub Pairwise : {X Y : Type 0} → (X → Y → Type 0) → List X → List Y → Type 0
 Pairwise P [] [] = Unit {0}
 Pairwise P (x ∷ xs) (y ∷ ys) = P x y × Pairwise P xs ys
 Pairwise P _ _ = ⊥
 
+-- IsLetterCondition y l c: `l` is the condition `c` in postfix form
 abbrev pub IsLetterCondition : Spec → LetterCondition → Condition → Type 0
 IsLetterCondition y l c = AreLetters y l.left.items c.left × AreLetters y l.right.items c.right
     × (l.equal ≡ c.equal)
 
+-- IsLetterRule y l r: `l` is the rule `r` in postfix form
 abbrev pub IsLetterRule : Spec → LetterRule → Rule → Type 0
 IsLetterRule y l r = AreLetters y l.left.items r.left × AreLetters y l.right.items r.right
     × Pairwise (IsLetterCondition y) l.conditions.items r.conditions
 
--- the number of arguments that a symbol is declared with
+-- arity_of y k: the declared number of arguments of a symbol
 abbrev pub arity_of : Spec → ℕ → ℕ
 arity_of y k = get_or (map (λ d. length d.arguments) (symbols y)) k 0
 
--- how many variables are declared
+-- variable_count y: the number of declared variables
 abbrev pub variable_count : Spec → ℕ
 variable_count y = length (variable_words y.variables)

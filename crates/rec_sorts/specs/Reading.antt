@@ -1,4 +1,4 @@
--- The letters of terms and rules, and the least places at which they break rules.
+-- The postfix items of terms and rules, and the least offsets at which they violate rules.
 use Rattle.std.specs.Prelude.{ℕ, ◌≡◌, ◌-◌, Bool, false, not, List, [], ◌∷◌, Option, Some, None}
 use Rattle.std.specs.Prelude.{length, map, slice_get, nat_eq}
 use Rattle.std.specs.List.{list_any}
@@ -19,11 +19,11 @@ use Rattle.rec_sorts.specs.declared.places.TermPlaces.{TermPlaces}
 use Rattle.rec_sorts.specs.declared.scope.Scope.{Scope}
 use Rattle.rec_sorts.specs.declared.terms.Placed.{Placed}
 
--- the letters of a term
+-- letters_of s t: the postfix items of a term
 abbrev pub letters_of : Scope → Term → List Placed
 letters_of s t = map (placed_by s) (flat t)
 
--- no rule is broken
+-- no rule is violated
 abbrev pub nowhere : TermPlaces
 nowhere = record {
   unknown = None;
@@ -35,12 +35,12 @@ nowhere = record {
   free = None;
 }
 
--- the least place for each rule, over some items
+-- places_over places_of xs: for each rule the least offset over some items
 abbrev pub places_over : {X : Type 0} → (X → TermPlaces) → List X → TermPlaces
 places_over places_of [] = nowhere
 places_over places_of (x ∷ xs) = joined (places_of x) (places_over places_of xs)
 
--- where a term breaks a rule by itself
+-- term_places s t: the offsets at which a term on its own violates rules
 abbrev pub term_places : Scope → Term → TermPlaces
 term_places s t = record nowhere {
   unknown = unknown_among (letters_of s t);
@@ -48,23 +48,23 @@ term_places s t = record nowhere {
   ill_sorted = ill_sorted_among s [] (letters_of s t);
 }
 
--- a term was read: these are its letters, and where it breaks a rule by itself
+-- IsReadTerm s t ls p: `ls` are the items of `t`, and `p` the offsets at which it violates rules
 pub record IsReadTerm (s : Scope) (t : Term) (ls : List Placed) (p : TermPlaces) : Type 0 where
   pub letters_read : ls ≡ letters_of s t
   pub places_read : p ≡ term_places s t
 
--- the last of some letters
+-- last_letter ps: the last item, which is the root
 abbrev pub last_letter : List Placed → Option Placed
 last_letter ps = slice_get ps (length ps - 1)
 
--- the place of the head, where it is no operator
+-- ill_headed_at s ps: the offset of the root if it is not an operator
 abbrev pub ill_headed_at : Scope → List Placed → Option ℕ
 ill_headed_at s ps = elim (last_letter ps) [
   | None ↦ None
   | Some p ↦ place_where (not (is_operator s p.meaning)) p.at
 ]
 
--- the place of the left one of two heads of different sorts
+-- unlike_at s ls rs: the offset of the left one of two roots if their sorts differ
 abbrev pub unlike_at : Scope → List Placed → List Placed → Option ℕ
 unlike_at s ls rs = elim (last_letter ls) [
   | None ↦ None
@@ -75,25 +75,25 @@ unlike_at s ls rs = elim (last_letter ls) [
   ]
 ]
 
--- the letter is the variable of this number
+-- is_the_variable v m: the item is the variable `v`
 abbrev pub is_the_variable : ℕ → Option Meaning → Bool
 is_the_variable v (Some (Variable k)) = nat_eq v k
 is_the_variable v _ = false
 
--- the variable of this number is among some letters
+-- binds_variable ps v: the variable `v` is among these items
 abbrev pub binds_variable : List Placed → ℕ → Bool
 binds_variable ps v = list_any (λ p. is_the_variable v p.meaning) ps
 
--- the letter is a variable that is not bound
+-- is_unbound bound m: the item is a variable that is not bound
 abbrev pub is_unbound : (ℕ → Bool) → Option Meaning → Bool
 is_unbound bound (Some (Variable k)) = not (bound k)
 is_unbound bound _ = false
 
--- the least place of a variable that is not bound
+-- unbound_among bound ps: the least offset of a variable that is not bound
 abbrev pub unbound_among : (ℕ → Bool) → List Placed → Option ℕ
 unbound_among bound ps = least_of (λ p. place_where (is_unbound bound p.meaning) p.at) ps
 
--- where a condition of a rule with these variables breaks a rule
+-- condition_places s bound c: the offsets at which a condition violates rules
 abbrev pub condition_places : Scope → (ℕ → Bool) → Condition → TermPlaces
 condition_places s bound c =
     joined (joined (term_places s c.left) (term_places s c.right)) (record nowhere {
@@ -102,10 +102,11 @@ condition_places s bound c =
           (unbound_among bound (letters_of s c.right));
     })
 
+-- conditions_places s bound cs: the offsets at which conditions violate rules
 abbrev pub conditions_places : Scope → (ℕ → Bool) → List Condition → TermPlaces
 conditions_places s bound cs = places_over (condition_places s bound) cs
 
--- where a rule breaks a rule
+-- rule_places s r: the offsets at which a rewrite rule violates rules
 abbrev pub rule_places : Scope → Rule → TermPlaces
 rule_places s r =
     let bound = binds_variable (letters_of s r.left) in
@@ -115,7 +116,7 @@ rule_places s r =
       unbound = unbound_among bound (letters_of s r.right);
     })) (conditions_places s bound r.conditions)
 
--- where two sides with these letters break a rule together
+-- both_places s ls rs: the offsets of violations that two sides cause together
 abbrev pub both_places : Scope → List Placed → List Placed → TermPlaces
 both_places s ls rs = record nowhere {
   ill_headed = ill_headed_at s ls;
@@ -123,30 +124,34 @@ both_places s ls rs = record nowhere {
   unbound = unbound_among (binds_variable ls) rs;
 }
 
--- where a rule with these letters and conditions breaks a rule, but for each side by itself
+-- bound_places s ls rs cs: the offsets of violations that no side causes on its own
 abbrev pub bound_places : Scope → List Placed → List Placed → List Condition → TermPlaces
 bound_places s ls rs cs =
     joined (both_places s ls rs) (conditions_places s (binds_variable ls) cs)
 
+-- rules_places s rs: the offsets at which rewrite rules violate rules
 abbrev pub rules_places : Scope → List Rule → TermPlaces
 rules_places s rs = places_over (rule_places s) rs
 
--- where a term to evaluate breaks a rule
+-- open_term_places s t: the offsets at which an EVAL term violates rules
 abbrev pub open_term_places : Scope → Term → TermPlaces
 open_term_places s t =
     joined (term_places s t) (record nowhere { free = unbound_among (λ _. false) (letters_of s t) })
 
+-- open_terms_places s ts: the offsets at which EVAL terms violate rules
 abbrev pub open_terms_places : Scope → List Term → TermPlaces
 open_terms_places s ts = places_over (open_term_places s) ts
 
--- the letters are those of the term
+-- SpellsTerm s ls t: `ls` is the postfix form of the term
 abbrev pub SpellsTerm : Scope → List Letter → Term → Type 0
 SpellsTerm s ls t = ls ≡ bare (letters_of s t)
 
+-- SpellsCondition s l c: `l` is the condition in postfix form
 abbrev pub SpellsCondition : Scope → LetterCondition → Condition → Type 0
 SpellsCondition s l c = SpellsTerm s l.left.items c.left × SpellsTerm s l.right.items c.right
     × (l.equal ≡ c.equal)
 
+-- SpellsRule s l r: `l` is the rule in postfix form
 abbrev pub SpellsRule : Scope → LetterRule → Rule → Type 0
 SpellsRule s l r = SpellsTerm s l.left.items r.left × SpellsTerm s l.right.items r.right
     × Pairwise (SpellsCondition s) l.conditions.items r.conditions

@@ -1,5 +1,5 @@
--- The eleven rules of a specification, each as the list of the places at which it is broken, and
--- the verdict.
+-- The eleven rules of a specification, each as the list of names that violate it, and the verdict
+-- on a text.
 use Rattle.std.specs.Prelude.{ℕ, ◌≡◌, ◌≤◌, ◌<◌, Bool, true, false, not, List, [], ◌∷◌, ◌++◌, Option}
 use Rattle.std.specs.Prelude.{Some, None, map, flat_map, filter, length, nat_eq, min}
 use Rattle.rec_syntax.specs.Tokens.{Word}
@@ -12,62 +12,62 @@ use Rattle.rec_sorts.specs.Lookup.{symbol}
 use Rattle.rec_sorts.specs.Lookup.{is_variable, sort_of, same_sort, count, condition_terms}
 use Rattle.rec_sorts.specs.Lookup.{rule_terms}
 
--- the first words of terms
+-- heads ts: the names at the roots of terms
 abbrev pub heads : List Term → List Word
 heads ts = map head ts
 
--- every term that stands in these, at any depth
+-- everywhere ts: these terms and all terms inside them
 abbrev pub everywhere : List Term → List Term
 everywhere ts = flat_map subterms ts
 
--- every term of a specification's rules and of its list of terms, at any depth
+-- all_terms y: every term of the rules and of EVAL, and all terms inside them
 abbrev pub all_terms : Spec → List Term
 all_terms y = everywhere (rule_terms y.rules ++ y.terms)
 
--- the sorts that a declaration names
+-- sorts_of d: the sorts that a declaration names
 abbrev pub sorts_of : Declaration → List Word
 sorts_of d = d.arguments ++ (d.sort ∷ [])
 
--- the words among these that have no place in the list
+-- missing known ws: the names in `ws` that are not in `known`
 abbrev pub missing : List Word → List Word → List Word
 missing known ws = filter (λ w. not (mentions known w.bytes)) ws
 
--- the words among these that name a variable
+-- variables_among y ws: the names in `ws` that are variables
 abbrev pub variables_among : Spec → List Word → List Word
 variables_among y ws = filter (λ w. is_variable y w.bytes) ws
 
--- 1: a sort is declared twice
+-- S1: a sort is declared twice
 abbrev pub repeated_sorts : Spec → List Word
 repeated_sorts y = repeated [] y.sorts
 
--- 2: a symbol is declared twice
+-- S2: a symbol is declared twice
 abbrev pub repeated_symbols : Spec → List Word
 repeated_symbols y = repeated [] (names (symbols y))
 
--- 3: a variable is declared twice, or has a symbol's name
+-- S3: a variable is declared twice, or has the name of a symbol
 abbrev pub taken_variables : Spec → List Word
 taken_variables y = repeated (names (symbols y)) (variable_words y.variables)
 
--- 4: a sort is not declared
+-- S4: a sort is not declared
 abbrev pub unknown_sorts : Spec → List Word
 unknown_sorts y = missing y.sorts (flat_map sorts_of (symbols y) ++ map (λ v. v.sort) y.variables)
 
--- 5: a word of a term is neither a symbol nor a variable
+-- S5: a name in a term is neither a symbol nor a variable
 abbrev pub unknown_words : Spec → List Word
 unknown_words y = missing (names (symbols y) ++ variable_words y.variables) (heads (all_terms y))
 
--- a term has the number of arguments that its symbol is declared with; a variable has none
+-- is_filled y t: the number of arguments is the declared one; a variable has no arguments
 abbrev pub is_filled : Spec → Term → Bool
 is_filled y (Apply w ts) = elim (symbol y w.bytes) [
   | Some d ↦ nat_eq (count ts) (length d.arguments)
   | None ↦ nat_eq (count ts) 0
 ]
 
--- 6: a symbol has another number of arguments than declared, or a variable has arguments
+-- S6: a symbol has the wrong number of arguments, or a variable has arguments
 abbrev pub ill_filled : Spec → List Word
 ill_filled y = heads (filter (λ t. not (is_filled y t)) (all_terms y))
 
--- the terms whose sort is not the one declared for their place
+-- ill_placed y ss ts: the terms whose sort is not the one for their position
 abbrev pub ill_placed : Spec → List Word → Terms → List Term
 ill_placed y [] ts = []
 ill_placed y (s ∷ ss) none = []
@@ -76,45 +76,45 @@ ill_placed y (s ∷ ss) (more t ts) = elim (same_sort (sort_of y t) (Some s.byte
   | false ↦ t ∷ ill_placed y ss ts
 ]
 
--- the arguments of a term that have another sort than declared
+-- ill_sorted_in y t: the arguments of a term whose sort is not the declared one
 abbrev pub ill_sorted_in : Spec → Term → List Term
 ill_sorted_in y (Apply w ts) =
     elim (symbol y w.bytes) [ Some d ↦ ill_placed y d.arguments ts | None ↦ [] ]
 
--- 7: an argument has another sort than declared
+-- S7: an argument has another sort than declared
 abbrev pub ill_sorted : Spec → List Word
 ill_sorted y = heads (flat_map (ill_sorted_in y) (all_terms y))
 
--- 8: the first word of a left side is no operator
+-- S8: the root of a left-hand side is not an operator
 abbrev pub ill_headed : Spec → List Word
 ill_headed y = missing (names y.operators) (map (λ r. head r.left) y.rules)
 
--- the left one of two terms of different sorts
+-- unlike y l r: the term `l` if the sorts of the two terms differ
 abbrev pub unlike : Spec → Term → Term → List Term
 unlike y l r = elim (same_sort (sort_of y l) (sort_of y r)) [ true ↦ [] | false ↦ l ∷ [] ]
 
--- 9: the two sides of a rule or of a condition have different sorts
+-- S9: the two sides of a rule or of a condition have different sorts
 abbrev pub unlike_sides : Spec → List Word
 unlike_sides y = heads
     (flat_map (λ r. unlike y r.left r.right ++ flat_map (λ c. unlike y c.left c.right) r.conditions)
     y.rules)
 
--- 10: a variable of a right side or of a condition does not occur in the left side
+-- S10: a variable of a right-hand side or of a condition does not occur in the left-hand side
 abbrev pub unbound : Spec → List Word
 unbound y = flat_map
     (λ r. missing (heads (subterms r.left))
     (variables_among y (heads (everywhere (r.right ∷ condition_terms r.conditions))))) y.rules
 
--- 11: a variable occurs in the list of terms
+-- S11: a variable occurs in an EVAL term
 abbrev pub open_terms : Spec → List Word
 open_terms y = variables_among y (heads (everywhere y.terms))
 
--- a rule's number, and the words at which it is broken
+-- the number of a rule, and the names that violate it
 pub record Broken : Type 0 where
   pub number : ℕ
   pub words : List Word
 
--- the rules in their order
+-- all_rules y: the rules in their order
 abbrev pub all_rules : Spec → List Broken
 all_rules y =
     (record { number = 1; words = repeated_sorts y })
@@ -130,18 +130,18 @@ all_rules y =
     ∷ (record { number = 11; words = open_terms y })
     ∷ []
 
--- the rule that a specification breaks, and where
+-- the violated rule that is reported, and its offset
 pub record Fault : Type 0 where
   pub number : ℕ
   pub at : ℕ
 
--- the least of some places
+-- least p qs: the least of some offsets
 abbrev pub least : ℕ → List ℕ → ℕ
 least p [] = p
 least p (q ∷ qs) = least (min p q) qs
 
--- the first rule that is broken, with the least place: so a rule is asked only where those before
--- it are kept
+-- first_broken bs: the lowest-numbered violated rule with the least offset; a rule counts only if
+-- those before it are not violated
 abbrev pub first_broken : List Broken → Option Fault
 first_broken [] = None
 first_broken (b ∷ bs) = elim (places b.words) [
@@ -149,22 +149,22 @@ first_broken (b ∷ bs) = elim (places b.words) [
   | p ∷ ps ↦ Some (record { number = b.number; at = least p ps })
 ]
 
--- the first of all rules that a specification breaks, with its place
+-- fault y: the lowest-numbered rule that a specification violates, with its offset
 abbrev pub fault : Spec → Option Fault
 fault y = first_broken (all_rules y)
 
--- a text that is too long, or leaves the grammar at a place, or breaks a rule, or is good
+-- the verdict on a text: too long, outside the grammar, a violated rule, or a specification
 pub data Verdict : Type 0 where
   Long : Verdict
   Grammar : (at : ℕ) → Verdict
   Breaks : Fault → Verdict
   Good : Spec → Verdict
 
--- a text is not too long
+-- Fits bytes: a text is not too long
 abbrev pub Fits : List ℕ → Type 0
 Fits bytes = length bytes ≤ 16777216
 
--- the verdict on a text
+-- SpecVerdict bytes v: `v` is the verdict on the text
 abbrev pub SpecVerdict : List ℕ → Verdict → Type 0
 SpecVerdict bytes Long = 16777216 < length bytes
 SpecVerdict bytes (Grammar at) = Fits bytes × IsFaultPlace bytes at

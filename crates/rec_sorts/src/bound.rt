@@ -1,4 +1,4 @@
-//! The variables that a left side binds.
+//! The variables that a left-hand side binds.
 
 ghost use Rattle.std.specs.Prelude.{◌≡◌, ℕ, IfOk, nat_eq};
 ghost use Rattle.std.specs.HashSet.{contains};
@@ -10,10 +10,10 @@ use crate::terms::Placed;
 use std::alloc::{AllocError, Global};
 use std::collections::HashSet;
 
-/// Up to so many letters are looked through, which costs less than a set of their variables.
+/// Up to this number of items are searched one by one, which costs less than a set of variables.
 const FEW: usize = 24;
 
-/// The variables among some letters, in a set where the letters are many.
+/// The variables among some postfix items, with a set of them if there are more than `FEW` items.
 #[derive(Drop)]
 pub struct Bound<'a> {
     pub letters: &'a [Placed],
@@ -22,7 +22,7 @@ pub struct Bound<'a> {
         (λ set. (v : ℕ) → contains nat_eq set v ≡ binds_variable letters.now v) },
 }
 
-/// The variables among some letters.
+/// Returns the set of variables among these items.
 fn variables(alloc: Global, letters: &[Placed]) -> Result<HashSet<u32>, AllocError>
     ensures { IfOk result (λ set. (v : ℕ) → contains nat_eq set v ≡ binds_variable letters.now v) }
 {
@@ -35,7 +35,7 @@ fn variables(alloc: Global, letters: &[Placed]) -> Result<HashSet<u32>, AllocErr
     Ok(variables)
 }
 
-/// Whether a variable is among some letters.
+/// Returns whether a variable is among these items.
 fn binds(letters: &[Placed], variable: u32) -> bool
     ensures { result ≡ binds_variable letters.now variable }
 {
@@ -50,7 +50,7 @@ fn binds(letters: &[Placed], variable: u32) -> bool
 }
 
 impl<'a> Bound<'a> {
-    /// The variables among these letters.
+    /// Collects the variables among these items.
     pub fn by(alloc: Global, letters: &'a [Placed]) -> Result<Bound<'a>, AllocError>
         ensures { IfOk result (λ b. b.letters.now ≡ letters.now) }
     {
@@ -62,7 +62,7 @@ impl<'a> Bound<'a> {
         Ok(Bound { letters, many })
     }
 
-    /// Whether a word is a variable that is not bound.
+    /// Returns whether a name is a variable that these items do not bind.
     pub fn lacks(&self, meaning: Option<Meaning>) -> bool
         ensures { result ≡ is_unbound (binds_variable self.now.letters.now) meaning }
     {

@@ -1,4 +1,4 @@
-//! A specification that keeps its rules.
+//! Specifications that violate no rule.
 
 ghost use Rattle.std.specs.Prelude.{◌≡◌, ◌<◌, None, length, map, All, IfOk, IfErr, OnOk};
 ghost use Rattle.rec_syntax.specs.Parts.{IsDeclaration, declaration_of};
@@ -19,14 +19,15 @@ use rec_syntax::{Declaration, Syntax};
 use std::alloc::{AllocError, Global};
 use std::marker::Model;
 
-/// A specification that keeps its rules: contracts see the text and the syntax tree.
+/// A specification that violates none of the rules S1 to S11, with its names numbered. Contracts
+/// see the text and the syntax tree.
 #[derive(Drop)]
 pub struct Checked {
     syntax: Syntax,
     constructors: u32,
     symbols: u32,
     variables: u32,
-    /// How many arguments each symbol has.
+    /// The number of arguments of each symbol.
     arities: Vec<u32>,
     rules: Vec<LetterRule>,
     terms: Vec<Vec<Letter>>,
@@ -48,7 +49,7 @@ impl Model for Checked {
 }
 
 impl Checked {
-    /// The specification, which keeps its rules.
+    /// Returns the specification as it was read. It violates no rule.
     pub fn syntax(&self) -> &Syntax
         ensures same { result.now ≡ self.now }
         ensures kept { fault self.now.spec ≡ None }
@@ -56,28 +57,28 @@ impl Checked {
         &self.syntax
     }
 
-    /// How many symbols there are.
+    /// Returns the number of symbols.
     pub fn symbols(&self) -> u32
         ensures { result ≡ length (symbols self.now.spec) }
     {
         self.symbols
     }
 
-    /// How many of them, the first ones, are constructors.
+    /// Returns the number of constructors. They have the first symbol numbers.
     pub fn constructors(&self) -> u32
         ensures { result ≡ length self.now.spec.constructors }
     {
         self.constructors
     }
 
-    /// How many variables there are.
+    /// Returns the number of variables.
     pub fn variables(&self) -> u32
         ensures { result ≡ variable_count self.now.spec }
     {
         self.variables
     }
 
-    /// The name of a symbol.
+    /// Returns the name of a symbol.
     pub fn symbol_name(&self, symbol: u32) -> &[u8]
         requires { symbol < length (symbols self.now.spec) }
         ensures { result.now ≡ name_of self.now.spec (Symbol symbol) }
@@ -96,7 +97,7 @@ impl Checked {
         }
     }
 
-    /// How many arguments a symbol is declared with.
+    /// Returns the declared number of arguments of a symbol.
     pub fn arity(&self, symbol: u32) -> u32
         requires { symbol < length (symbols self.now.spec) }
         ensures { result ≡ arity_of self.now.spec symbol }
@@ -104,7 +105,7 @@ impl Checked {
         self.arities[symbol as usize]
     }
 
-    /// The letters of the rules.
+    /// Returns the rules in postfix form, in the order of the text.
     pub fn rules(&self) -> &[LetterRule]
         ensures kept { fault self.now.spec ≡ None }
         ensures letters { Pairwise (IsLetterRule self.now.spec) result.now self.now.spec.rules }
@@ -112,7 +113,7 @@ impl Checked {
         &self.rules
     }
 
-    /// The letters of the terms to evaluate.
+    /// Returns the EVAL terms in postfix form, in the order of the text.
     pub fn terms(&self) -> &[Vec<Letter>]
         ensures kept { fault self.now.spec ≡ None }
         ensures letters { Pairwise
@@ -122,7 +123,7 @@ impl Checked {
     }
 }
 
-/// The name of a declaration.
+/// Returns the name of the declaration with this number.
 fn name_in<'a>(source: &'a [u8], declarations: &[Declaration], number: usize) -> &'a [u8]
     requires within { All (IsDeclaration source.now) declarations.now }
     requires number { number < length declarations.now }
@@ -133,8 +134,8 @@ fn name_in<'a>(source: &'a [u8], declarations: &[Declaration], number: usize) ->
     &source[name.from..name.to]
 }
 
-/// The least place at which each rule is broken, in their order, and the letters of the rules and
-/// terms.
+/// The result of an examination: the least offset of a violation of each rule, in the order of the
+/// rules, and the rules and terms in postfix form.
 #[derive(Drop)]
 struct Examined {
     places: [Option<u32>; 11],
@@ -146,7 +147,7 @@ struct Examined {
     terms: Vec<Vec<Letter>>,
 }
 
-/// How many items each of some vectors has.
+/// Returns the length of each vector.
 fn lengths(alloc: Global, vectors: &[Vec<Option<u32>>]) -> Result<Vec<u32>, AllocError>
     ensures { IfOk result (λ v. v.items ≡ map (λ sorts. length sorts.items) vectors.now) }
 {
@@ -157,7 +158,7 @@ fn lengths(alloc: Global, vectors: &[Vec<Option<u32>>]) -> Result<Vec<u32>, Allo
     Ok(lengths)
 }
 
-/// The rules are asked all of them, where this is declared.
+/// Examines a specification with these declarations against all rules.
 fn examine_declared(
     alloc: Global,
     syntax: &Syntax,
@@ -194,7 +195,7 @@ fn examine_declared(
     })
 }
 
-/// The rules are asked all of them, and the words numbered.
+/// Examines a specification against all rules, and numbers its names.
 fn examine(alloc: Global, syntax: &Syntax) -> Result<Examined, AllocError>
     ensures { IfOk result (IsExamined syntax.now.spec) }
 {
@@ -202,7 +203,8 @@ fn examine(alloc: Global, syntax: &Syntax) -> Result<Examined, AllocError>
     examine_declared(alloc, syntax, &declared)
 }
 
-/// The first rule that is broken, where the places are those of the rules in their order.
+/// Returns the lowest-numbered violated rule as an error. `places` has an offset for each rule that
+/// is violated.
 fn first_broken(places: &[Option<u32>; 11]) -> Result<(), SortFault>
     ensures kept { OnOk result (first_place 1 places.now ≡ None) }
     ensures broken { IfErr result (IsFault (first_place 1 places.now)) }
@@ -216,7 +218,9 @@ fn first_broken(places: &[Option<u32>; 11]) -> Result<(), SortFault>
     Ok(())
 }
 
-/// Asks the eleven rules of a specification.
+/// Checks a specification against the rules S1 to S11. Returns `Rule` with the number of the
+/// lowest-numbered violated rule and the least offset of a violation, or `Memory` if an allocation
+/// failed. Takes expected linear time in the length of the text.
 pub fn check(alloc: Global, syntax: Syntax) -> Result<Checked, SortFault>
     ensures ok { IfOk result (λ c. (c ≡ syntax) × (fault c.spec ≡ None)) }
     ensures broken { IfErr result (IsFault (fault syntax.spec)) }

@@ -1,4 +1,4 @@
-//! The declarations of a specification, and the four rules on them.
+//! The declarations of a specification, and the rules S1 to S4 for them.
 
 ghost use Rattle.std.specs.Prelude.{◌≡◌, ◌+◌, ◌^◌, ◌<◌, [], All, IfOk, OnOk, None, length, map};
 ghost use Rattle.rec_syntax.specs.Parts.{Within, IsDeclaration, IsGroup, words_of, declaration_of};
@@ -11,24 +11,25 @@ use crate::places::{earlier_place, number, place_where};
 use rec_syntax::{Declaration, Group, Span};
 use std::alloc::{AllocError, Global};
 
-/// The sorts that are declared.
+/// The declared sorts.
 #[derive(Drop)]
 pub struct Sorts<'a> {
     pub source: &'a [u8],
     pub names: Names<'a>,
 }
 
-/// The words that are declared so far, each with its sort, and the sorts of the symbols' arguments.
+/// The names that were declared so far, each with its sort, and the argument sorts of symbols.
 #[derive(Drop)]
 pub struct Declared {
     pub words: Vec<Span>,
     pub sorts: Vec<Option<u32>>,
     pub arguments: Vec<Vec<Option<u32>>>,
-    /// The least place of a sort that is not declared.
+    /// The least offset of a sort that is not declared.
     pub unknown: Option<u32>,
 }
 
-/// Numbers the words in turn, from `first` on; the least place of one that had a number.
+/// Numbers the names one after another, from `first` on. Returns the least offset of one that had a
+/// number already.
 pub fn number_words<'a>(
     names: &mut Names<'a>,
     source: &'a [u8],
@@ -54,7 +55,7 @@ pub fn number_words<'a>(
 impl<'a> Sorts<'a> {
     ghost use Rattle.rec_sorts.specs.Declaring.{sort_numbers, unnumbered, least_unnumbered};
 
-    /// The number of a sort, and the place of the word where there is none.
+    /// Returns the number of a sort, and the offset of the name if it has none.
     fn find(&self, word: Span) -> Result<(Option<u32>, Option<u32>), AllocError>
         requires { Within self.now.source.now word }
         ensures sort { IfOk result
@@ -67,7 +68,7 @@ impl<'a> Sorts<'a> {
         Ok((sort, place_where(sort.is_none(), at)))
     }
 
-    /// The numbers of some sorts, and the least place of one that has none.
+    /// Returns the numbers of some sorts, and the least offset of one that has none.
     fn find_all(
         &self,
         alloc: Global,
@@ -94,7 +95,7 @@ impl Declared {
     ghost use Rattle.rec_sorts.specs.Declaring.{Adds, added_by_symbol, added_by_symbols};
     ghost use Rattle.rec_sorts.specs.Declaring.{added_by_group, added_by_groups};
 
-    /// Nothing is declared.
+    /// Returns an empty list of declarations.
     pub fn new(alloc: Global) -> Self
         ensures words { result.words.items ≡ [] }
         ensures sorts { result.sorts.items ≡ [] }
@@ -109,7 +110,7 @@ impl Declared {
         }
     }
 
-    /// A symbol.
+    /// Adds the declaration of a symbol.
     fn symbol(
         &mut self,
         alloc: Global,
@@ -130,7 +131,7 @@ impl Declared {
         Ok(())
     }
 
-    /// Symbols.
+    /// Adds the declarations of symbols.
     pub fn symbols(
         &mut self,
         alloc: Global,
@@ -148,7 +149,7 @@ impl Declared {
         Ok(())
     }
 
-    /// Variables of one sort.
+    /// Adds the variables of one group.
     fn group(&mut self, sorts: &Sorts, group: &Group) -> Result<(), AllocError>
         requires { IsGroup sorts.now.source.now group.now }
         ensures { OnOk result (Adds sorts.now.source.now (given_to sorts.now.names) self.old
@@ -166,7 +167,7 @@ impl Declared {
         Ok(())
     }
 
-    /// Variables.
+    /// Adds the variables of all groups.
     pub fn groups(&mut self, sorts: &Sorts, groups: &[Group]) -> Result<(), AllocError>
         requires { All (IsGroup sorts.now.source.now) groups.now }
         ensures { OnOk result (Adds sorts.now.source.now (given_to sorts.now.names) self.old

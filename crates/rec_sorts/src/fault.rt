@@ -1,24 +1,26 @@
-//! Why a specification or given terms are not accepted.
+//! The error types of the checks.
 
 use thiserror::Error;
 
-/// Why a specification is not accepted.
+/// The error of [`crate::check`]: why a specification is rejected.
 #[derive(Debug, Drop, Error)]
 pub enum SortFault {
-    /// The first of the rules that is broken, by its number from 1, with the least place at which
-    /// it is.
+    /// A rule is violated: the lowest-numbered one, from 1 to 11, with the least offset in bytes of
+    /// a violation.
     #[error("rule {number} is broken at {at}")]
     Rule { number: u8, at: u32 },
+    /// An allocation failed.
     #[error("out of memory")]
     Memory,
 }
 
-/// Why given terms are not accepted.
+/// The error of [`crate::check_terms`]: why input terms are rejected.
 #[derive(Debug, Drop, Error)]
 pub enum TermsFault {
-    /// The first of the six rules that is broken, by its number from 1.
+    /// A rule is violated: the lowest-numbered one, from 1 to 6.
     #[error("rule {number} is broken")]
     Rule { number: u8 },
+    /// An allocation failed.
     #[error("out of memory")]
     Memory,
 }

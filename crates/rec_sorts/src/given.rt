@@ -1,4 +1,4 @@
-//! The rules of given terms, and their letters.
+//! The rules of input terms, and their postfix form.
 
 ghost use Rattle.std.specs.Prelude.{◌≡◌, None, Some, List, IsSome, IfSome, IfOk, IfErr, OnOk};
 ghost use Rattle.std.specs.Prelude.{is_some, length, map, reverse};
@@ -24,7 +24,7 @@ use rec_syntax::Syntax;
 use rx_term::{Kind, Term, TermBank, plain_name};
 use std::alloc::{AllocError, Global};
 
-/// What a specification declares.
+/// Returns the declarations of a specification.
 fn scope_of(alloc: Global, syntax: &Syntax) -> Result<Scope<'_>, AllocError>
     ensures { IfOk result (IsScope syntax.now.spec) }
 {
@@ -32,7 +32,7 @@ fn scope_of(alloc: Global, syntax: &Syntax) -> Result<Scope<'_>, AllocError>
     Ok(declared.scope)
 }
 
-/// Whether a term is a list without annotations.
+/// Returns whether a term is a list without annotations.
 fn is_plain_list<B: TermBank>(bank: &B, term: Term) -> bool
     requires { IsSome (tree_at (B.store bank.now) term) }
     ensures { result ≡ is_some (elements (held_tree (B.store bank.now) term)) }
@@ -43,7 +43,7 @@ fn is_plain_list<B: TermBank>(bank: &B, term: Term) -> bool
     }
 }
 
-/// Whether some of these nodes is no application.
+/// Returns whether one of these subterms is not an application.
 fn any_no_application<B: TermBank>(bank: &B, nodes: &[Term]) -> bool
     requires { AllHeld (B.store bank.now) nodes.now }
     ensures { result ≡ list_any
@@ -54,7 +54,7 @@ fn any_no_application<B: TermBank>(bank: &B, nodes: &[Term]) -> bool
         .any(|node| !matches!(bank.kind(*node), Kind::Appl(_)))
 }
 
-/// Whether some of these nodes has annotations.
+/// Returns whether one of these subterms has annotations.
 fn any_annotated<B: TermBank>(bank: &B, nodes: &[Term]) -> bool
     requires { AllHeld (B.store bank.now) nodes.now }
     ensures { result ≡ list_any (λ r. is_annotated (held_tree (B.store bank.now) r)) nodes.now }
@@ -62,7 +62,7 @@ fn any_annotated<B: TermBank>(bank: &B, nodes: &[Term]) -> bool
     nodes.iter().any(|node| bank.anns(*node).is_some())
 }
 
-/// How many arguments a node has.
+/// Returns the number of arguments of a term.
 fn argument_count<B: TermBank>(bank: &B, node: Term) -> u32
     requires { IsSome (tree_at (B.store bank.now) node) }
     ensures { result ≡ count_of (arguments (held_tree (B.store bank.now) node)) }
@@ -79,7 +79,7 @@ impl Scope<'_> {
     ghost use Rattle.rec_sorts.specs.Inner.GivenTerms.{has_misfit, node_letter, broken_by_nodes};
     ghost use Rattle.rec_sorts.specs.Inner.GivenTerms.{broken_by_all, is_broken_alone};
 
-    /// The symbol that a node stands for: one of its name, which stands unquoted where it may.
+    /// Returns the symbol of a term: one with its name, quoted only if the name is not plain.
     fn symbol<B: TermBank>(&self, bank: &B, node: Term) -> Option<Meaning>
         requires { IsSome (tree_at (B.store bank.now) node) }
         ensures { result ≡ symbol_at self.now (held_tree (B.store bank.now) node) }
@@ -97,7 +97,7 @@ impl Scope<'_> {
         }
     }
 
-    /// Whether some of these nodes stands for no symbol.
+    /// Returns whether one of these subterms has no declared symbol.
     fn any_nameless<B: TermBank>(&self, bank: &B, nodes: &[Term]) -> bool
         requires { AllHeld (B.store bank.now) nodes.now }
         ensures { result ≡ list_any
@@ -106,7 +106,7 @@ impl Scope<'_> {
         nodes.iter().any(|node| self.symbol(bank, *node).is_none())
     }
 
-    /// Whether a node has another number of arguments than its symbol is declared with.
+    /// Returns whether a term with a declared symbol has the wrong number of arguments.
     fn is_misfilled<B: TermBank>(&self, bank: &B, node: Term) -> bool
         requires { IsSome (tree_at (B.store bank.now) node) }
         ensures { result ≡ is_misfilled self.now (held_tree (B.store bank.now) node) }
@@ -116,7 +116,7 @@ impl Scope<'_> {
         symbol.is_some() && count as usize != self.arguments(symbol).len()
     }
 
-    /// Whether some of these nodes has.
+    /// Returns whether one of these subterms has the wrong number of arguments.
     fn any_misfilled<B: TermBank>(&self, bank: &B, nodes: &[Term]) -> bool
         requires { AllHeld (B.store bank.now) nodes.now }
         ensures { result ≡ list_any
@@ -125,7 +125,7 @@ impl Scope<'_> {
         nodes.iter().any(|node| self.is_misfilled(bank, *node))
     }
 
-    /// Whether an argument of a node has another sort than declared for its place.
+    /// Returns whether an argument of a term has another sort than declared for its position.
     fn has_misfit<B: TermBank>(&self, bank: &B, node: Term) -> bool
         requires { IsSome (tree_at (B.store bank.now) node) }
         ensures { result ≡ has_misfit self.now (held_tree (B.store bank.now) node) }
@@ -146,7 +146,7 @@ impl Scope<'_> {
         false
     }
 
-    /// Whether some of these nodes has such an argument.
+    /// Returns whether one of these subterms has an argument of another sort than declared.
     fn any_misfit<B: TermBank>(&self, bank: &B, nodes: &[Term]) -> bool
         requires { AllHeld (B.store bank.now) nodes.now }
         ensures { result ≡ list_any
@@ -155,7 +155,7 @@ impl Scope<'_> {
         nodes.iter().any(|node| self.has_misfit(bank, *node))
     }
 
-    /// The letter of a node that stands for a symbol.
+    /// Returns the postfix item of a term whose symbol is declared.
     fn node_letter<B: TermBank>(&self, bank: &B, node: Term) -> Letter
         requires { IsSome (tree_at (B.store bank.now) node) }
         ensures { result ≡ node_letter self.now (held_tree (B.store bank.now) node) }
@@ -166,7 +166,7 @@ impl Scope<'_> {
         }
     }
 
-    /// The letters of a term.
+    /// Returns the postfix form of a term.
     fn letters_of<B: TermBank>(
         &self,
         alloc: Global,
@@ -186,8 +186,8 @@ impl Scope<'_> {
         Ok(letters)
     }
 
-    /// The first of the rules 2 to 6 that some nodes break, of which the inner ones may not have
-    /// annotations.
+    /// Returns the lowest-numbered of the rules T2 to T6 that these subterms violate. Only those in
+    /// `inner` must not have annotations.
     fn first_broken<B: TermBank>(&self, bank: &B, all: &[Term], inner: &[Term]) -> Option<u8>
         requires all { AllHeld (B.store bank.now) all.now }
         requires inner { AllHeld (B.store bank.now) inner.now }
@@ -209,7 +209,7 @@ impl Scope<'_> {
         }
     }
 
-    /// The letters of some terms: a vector for each, in their order.
+    /// Returns the postfix form of each of these terms, in their order.
     fn letters_of_all<B: TermBank>(
         &self,
         alloc: Global,
@@ -227,7 +227,7 @@ impl Scope<'_> {
         Ok(letters)
     }
 
-    /// The first of the rules 2 to 6 that the items of a list break.
+    /// Returns the lowest-numbered of the rules T2 to T6 that the items of a list violate.
     fn broken_by_items<B: TermBank>(
         &self,
         alloc: Global,
@@ -242,7 +242,8 @@ impl Scope<'_> {
         Ok(self.first_broken(bank, &found.all, &found.inner))
     }
 
-    /// Whether a given term breaks this one of the rules 2 to 6 first, where it is given alone.
+    /// Returns whether `number` is the lowest-numbered of the rules T2 to T6 that this term
+    /// violates on its own.
     fn breaks_alone<B: TermBank>(
         &self,
         alloc: Global,
@@ -260,7 +261,7 @@ impl Scope<'_> {
         Ok(self.first_broken(bank, &found.all, &found.inner) == Some(number))
     }
 
-    /// The first given term that breaks this rule alone, by how many stand before it.
+    /// Returns the index, from 0, of the first input term that violates this rule on its own.
     fn first_breaking<B: TermBank>(
         &self,
         alloc: Global,
@@ -280,7 +281,7 @@ impl Scope<'_> {
         Ok(None)
     }
 
-    /// The first item of a list that breaks this rule alone, by how many stand before it.
+    /// Returns the index, from 0, of the first item of a list that violates this rule on its own.
     fn first_breaking_item<B: TermBank>(
         &self,
         alloc: Global,
@@ -297,7 +298,7 @@ impl Scope<'_> {
     }
 }
 
-/// The first of the six rules that a list of given terms breaks.
+/// Returns the lowest-numbered of the rules T1 to T6 that a list of input terms violates.
 fn broken_rule<B: TermBank>(
     alloc: Global,
     checked: &Checked,
@@ -315,8 +316,9 @@ fn broken_rule<B: TermBank>(
     scope.broken_by_items(alloc, bank, list)
 }
 
-/// Asks the six rules of a list of given terms. A fault names the first one that is broken, or says
-/// that memory ran out.
+/// Checks a list of input terms against the rules T1 to T6. Returns `Rule` with the number of the
+/// lowest-numbered violated rule, or `Memory` if an allocation failed. The store is only read.
+/// Takes time linear in the size of the terms as trees.
 pub fn check_terms<B: TermBank>(
     alloc: Global,
     checked: &Checked,
@@ -336,8 +338,9 @@ pub fn check_terms<B: TermBank>(
     }
 }
 
-/// The first given term that alone breaks the rule that the list breaks, by how many stand before
-/// it; none, where no rule is broken or the term is no list without annotations.
+/// Returns the index, from 0, of the first input term that on its own violates the rule that the
+/// list violates. Returns `None` if no rule is violated, or if the term is not a list without
+/// annotations. Takes time linear in the size of the terms as trees.
 pub fn broken_element<B: TermBank>(
     alloc: Global,
     checked: &Checked,
@@ -358,7 +361,8 @@ pub fn broken_element<B: TermBank>(
     scope.first_breaking_item(alloc, bank, list, number)
 }
 
-/// The letters of given terms that keep the rules: a vector for each, in their order.
+/// Returns the postfix form of each input term, in their order. The terms violate no rule. Takes
+/// time linear in the size of the terms as trees.
 pub fn term_letters<B: TermBank>(
     alloc: Global,
     checked: &Checked,

@@ -1,35 +1,35 @@
-//! What holds of binding, evaluation, rewriting and the rules of given terms, over the definitions
-//! alone.
+//! Properties of matching, evaluation, rewriting and the rules of input terms. They follow from the
+//! definitions alone; the functions do nothing.
 
 ghost use Rattle.rec_sorts.specs.Laws.{BindingLaw, OneEvaluator, CostLaw, RewritingLaw, BuiltLaw};
 ghost use Rattle.rec_sorts.specs.Laws.{ElementLaw};
 
-/// A left side is made a tree by one substitution on its variables, or by none.
+/// At most one substitution of its variables makes a left-hand side equal to a given tree.
 pub fn binding_law()
     ensures { BindingLaw }
 {}
 
-/// Evaluation meets its equations, and nothing else does.
+/// Evaluation satisfies its equations, and no other function does.
 pub fn one_evaluator()
     ensures { OneEvaluator }
 {}
 
-/// Each value has one cost, whatever the budget.
+/// Each normal form has one cost, which does not depend on the step limit.
 pub fn cost_law()
     ensures { CostLaw }
 {}
 
-/// A value is reached by innermost rewriting, and is a normal form.
+/// The result of an evaluation is reached by innermost rewriting, and is a normal form.
 pub fn rewriting_law()
     ensures { RewritingLaw }
 {}
 
-/// A tree built of constructors is its own value, at no cost.
+/// A constructor term evaluates to itself, in no steps.
 pub fn built_law()
     ensures { BuiltLaw }
 {}
 
-/// Where given terms break a rule, one of them breaks it alone.
+/// If input terms violate a rule, one of them violates it on its own.
 pub fn element_law()
     ensures { ElementLaw }
 {}

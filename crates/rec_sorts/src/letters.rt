@@ -1,31 +1,31 @@
-//! Terms of a checked specification, with a number in place of each word.
+//! Terms of a checked specification in postfix form, with a number in place of each name.
 
-/// What a word of a term stands for: a symbol or a variable, by its number. Symbols are numbered
-/// from 0 in textual order, those of CONS and then those of OPNS; so are variables.
+/// A symbol or a variable, by its number. Symbols are numbered from 0 in the order of the text,
+/// constructors first, then operators. Variables are numbered from 0 as well.
 #[derive(Clone, Copy, Debug, Drop, PartialEq, Eq)]
 pub enum Meaning {
     Symbol(u32),
     Variable(u32),
 }
 
-/// A word of a term, and how many arguments it has.
+/// A postfix item: a symbol or variable, and the number of its arguments.
 #[derive(Clone, Copy, Debug, Drop, PartialEq, Eq)]
 pub struct Letter {
     pub meaning: Meaning,
     pub count: u32,
 }
 
-/// A condition's two terms, each as its letters: those of the arguments from left to right, and
-/// then the head's.
+/// A condition with its two terms in postfix form: the items of the arguments from left to right,
+/// then the item of the root.
 #[derive(Debug, Drop)]
 pub struct LetterCondition {
     pub left: Vec<Letter>,
     pub right: Vec<Letter>,
-    /// Whether the values are to be equal, or else to differ.
+    /// Whether the normal forms have to be equal; otherwise they have to differ.
     pub equal: bool,
 }
 
-/// A rule's terms, each as its letters.
+/// A rule with its terms in postfix form.
 #[derive(Debug, Drop)]
 pub struct LetterRule {
     pub left: Vec<Letter>,

@@ -1,4 +1,4 @@
-//! The symbols of a specification in a bank.
+//! The symbols of a specification in a term store.
 
 ghost use Rattle.std.specs.Prelude.{◌≡◌, ◌≢◌, ◌<◌, ◌^◌, List, Some, Err, IfOk, length, nat_eq};
 ghost use Rattle.std.specs.Prelude.{slice_get};
@@ -13,8 +13,9 @@ use rx_term::{BankFault, Symbol, TermBank, plain_name};
 use std::alloc::{AllocError, Global};
 use std::marker::Model;
 
-/// Which symbol of a bank is which symbol of a specification: contracts see the bank's symbols by
-/// the specification's numbers, from 0 in textual order.
+/// The symbol map: for each symbol of a specification its symbol in one store, and back. Contracts
+/// see the list of the store's symbols by the specification's numbers, from 0 in the order of the
+/// text.
 #[derive(Drop)]
 pub struct Links {
     symbols: Vec<Symbol>,
@@ -29,7 +30,8 @@ impl Model for Links {
     ghost invariant = { λ l. NumbersOf l.symbols.items (λ s. get nat_eq l.numbers s) };
 }
 
-/// The bank's symbols for those of a specification, by the specification's numbers.
+/// Returns the store's symbol of each symbol of the specification, by the specification's numbers.
+/// Symbols that the store does not have are added.
 fn linked_symbols<B: TermBank>(
     alloc: Global,
     checked: &Checked,
@@ -52,7 +54,7 @@ fn linked_symbols<B: TermBank>(
     Ok(symbols)
 }
 
-/// The number of each of these symbols.
+/// Returns a map from each of these symbols to its index.
 fn numbers_of(alloc: Global, symbols: &[Symbol]) -> Result<IndexMap<u64, u32>, AllocError>
     requires differ { AllDiffer symbols.now }
     requires fits { length symbols.now < 2 ^ 32 }
@@ -67,8 +69,9 @@ fn numbers_of(alloc: Global, symbols: &[Symbol]) -> Result<IndexMap<u64, u32>, A
 }
 
 impl Links {
-    /// The symbols of a specification in a bank, which has them from now on; the only fault is
-    /// want of memory, and nothing else of the bank changes then either.
+    /// Makes the symbol map of a specification for a store, and adds the symbols that the store
+    /// does not have. The only possible error is `Memory`. Nothing but symbols is added, also after
+    /// an error. Takes expected time linear in the total length of the names.
     pub fn make<B: TermBank>(
         alloc: Global,
         checked: &Checked,
@@ -85,7 +88,7 @@ impl Links {
         }
     }
 
-    /// The bank's symbol of a number.
+    /// Returns the store's symbol with this number. Takes constant time.
     pub fn symbol_of(&self, op: u32) -> Symbol
         requires { op < length self.now }
         ensures { slice_get self.now op ≡ Some result }
@@ -93,7 +96,7 @@ impl Links {
         self.symbols[op as usize]
     }
 
-    /// The bank's symbols by their numbers.
+    /// Returns the store's symbols by their numbers. They differ from each other.
     pub fn symbols(&self) -> &[Symbol]
         ensures same { result.now ≡ self.now }
         ensures differ { AllDiffer self.now }
@@ -101,14 +104,15 @@ impl Links {
         &self.symbols
     }
 
-    /// The number of a bank's symbol, where it is one of the specification's.
+    /// Returns the number of a symbol of the store, or `None` if it is not one of the
+    /// specification's symbols. Takes expected constant time.
     pub fn op_of(&self, symbol: Symbol) -> Option<u32>
         ensures { NumberOf self.now symbol result }
     {
         self.numbers.get(&symbol.0).copied()
     }
 
-    /// The same links once more.
+    /// Returns a copy of this symbol map.
     pub fn copy(&self, alloc: Global) -> Result<Links, AllocError>
         ensures { IfOk result (λ l. l ≡ self.now) }
     {

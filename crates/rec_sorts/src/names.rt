@@ -1,4 +1,4 @@
-//! Names by their numbers.
+//! Names with numbers.
 
 ghost use Rattle.std.specs.Prelude.{◌≡◌, ◌∷◌, [], None, IfOk, OnOk, is_none, bytes_eq};
 ghost use Rattle.std.specs.Cmp.{on_per, on_equiv, partial_equiv_from_equiv};
@@ -9,7 +9,7 @@ use indexmap::IndexMap;
 use std::alloc::{AllocError, Global};
 use std::hash::{Hash, Hasher};
 
-/// A name as a key: its bytes are hashed in one call, and not each by itself.
+/// A name as a hash key. Its bytes are hashed in one call and not one by one.
 #[derive(Clone, Copy, Drop)]
 pub struct Key<'a> {
     bytes: &'a [u8],
@@ -40,7 +40,7 @@ impl Hash for Key<'_> {
     }
 }
 
-/// The names that have a number.
+/// A map from names to numbers.
 #[derive(Drop)]
 pub struct Names<'a> {
     numbers: IndexMap<Key<'a>, u32>,
@@ -49,7 +49,7 @@ pub struct Names<'a> {
 impl<'a> Names<'a> {
     ghost use Rattle.rec_sorts.specs.Names.{given_to, given_first};
 
-    /// No name has a number; there is room for so many.
+    /// Returns an empty map with room for `count` names.
     pub fn with_capacity(alloc: Global, count: usize) -> Result<Self, AllocError>
         ensures { IfOk result (λ names. given_to names ≡ (λ _. None)) }
     {
@@ -57,14 +57,14 @@ impl<'a> Names<'a> {
         Ok(Names { numbers })
     }
 
-    /// The number of a name.
+    /// Returns the number of a name.
     pub fn number(&self, name: &[u8]) -> Option<u32>
         ensures { result ≡ given_to self.now name.now }
     {
         self.numbers.get(&Key { bytes: name }).copied()
     }
 
-    /// Gives a name this number, unless it has one already; answers whether it had none.
+    /// Gives a name this number, unless it has one already. Returns whether it had none.
     pub fn give(&mut self, name: &'a [u8], number: u32) -> Result<bool, AllocError>
         ensures fresh { IfOk result (λ fresh. fresh ≡ is_none (given_to self.old name.entry.now)) }
         ensures given { OnOk result

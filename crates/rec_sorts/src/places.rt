@@ -1,11 +1,11 @@
-//! The least places at which rules are broken.
+//! The least offsets at which rules are violated.
 
 ghost use Rattle.std.specs.Prelude.{◌≡◌, IfOk};
 ghost use Rattle.rec_sorts.specs.Least.{earlier, place_where, is_nowhere, joined};
 
 use std::alloc::AllocError;
 
-/// The lesser of two places.
+/// Returns the smaller of two offsets.
 pub fn earlier_place(first: Option<u32>, second: Option<u32>) -> Option<u32>
     ensures { result ≡ earlier first second }
 {
@@ -16,14 +16,14 @@ pub fn earlier_place(first: Option<u32>, second: Option<u32>) -> Option<u32>
     }
 }
 
-/// The place, where a rule is broken there.
+/// Returns the offset if `broken` is true.
 pub fn place_where(broken: bool, at: u32) -> Option<u32>
     ensures { result ≡ place_where broken at }
 {
     if broken { Some(at) } else { None }
 }
 
-/// The least place at which each rule of the terms is broken.
+/// For each rule on terms (S5 to S11), the least offset of a violation.
 #[derive(Clone, Copy, Debug)]
 pub struct TermPlaces {
     pub unknown: Option<u32>,
@@ -36,7 +36,7 @@ pub struct TermPlaces {
 }
 
 impl TermPlaces {
-    /// No rule is broken.
+    /// No rule is violated.
     pub const NONE: TermPlaces = TermPlaces {
         unknown: None,
         ill_filled: None,
@@ -47,7 +47,7 @@ impl TermPlaces {
         free: None,
     };
 
-    /// Whether no rule is broken.
+    /// Returns whether no rule is violated.
     fn is_nowhere(&self) -> bool
         ensures { result ≡ is_nowhere self.now }
     {
@@ -60,7 +60,7 @@ impl TermPlaces {
             && self.free.is_none()
     }
 
-    /// The lesser place for each rule; mostly the other has none.
+    /// Returns the smaller offset for each rule. Mostly `other` has none.
     #[inline(always)]
     pub fn join(self, other: TermPlaces) -> TermPlaces
         ensures { result ≡ joined self other }
@@ -80,7 +80,7 @@ impl TermPlaces {
     }
 }
 
-/// A number that fits.
+/// Converts a number to 32 bits. Returns an error if it does not fit.
 pub fn number(n: usize) -> Result<u32, AllocError>
     ensures { IfOk result (λ k. k ≡ n) }
 {

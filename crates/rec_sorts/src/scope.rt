@@ -1,4 +1,4 @@
-//! What a specification declares, by the numbers of its words and sorts.
+//! The declarations of a specification, by the numbers of its names and sorts.
 
 ghost use Rattle.std.specs.Prelude.{◌≡◌, Option};
 ghost use Rattle.rec_syntax.specs.Parts.{Within};
@@ -8,16 +8,15 @@ use crate::letters::Meaning;
 use crate::names::Names;
 use rec_syntax::Span;
 
-/// The symbols and variables that a specification declares. A sort that is not declared has no
-/// number.
+/// The declared symbols and variables. A sort that is not declared has no number.
 #[derive(Drop)]
 pub struct Scope<'a> {
     pub source: &'a [u8],
-    /// The symbols, and then the variables.
+    /// The numbers of the symbols, followed by those of the variables.
     pub words: Names<'a>,
-    /// The sort of each of them.
+    /// The sort of each symbol and variable.
     pub sorts: Vec<Option<u32>>,
-    /// The sorts of each symbol's arguments.
+    /// The argument sorts of each symbol.
     pub arguments: Vec<Vec<Option<u32>>>,
     pub constructors: u32,
     pub symbols: u32,
@@ -26,7 +25,7 @@ pub struct Scope<'a> {
 impl<'a> Scope<'a> {
     ghost use Rattle.rec_sorts.specs.Scope.{meaning_of, sort_at, arguments_at, is_operator};
 
-    /// The bytes of a word of the source.
+    /// Returns the bytes of a name in the source.
     pub fn word(&self, span: Span) -> &'a [u8]
         requires { Within self.now.source.now span }
         ensures { result.now ≡ (word_of self.now.source.now span).bytes }
@@ -34,7 +33,7 @@ impl<'a> Scope<'a> {
         &self.source[span.from..span.to]
     }
 
-    /// What a name stands for.
+    /// Returns the symbol or variable that a name denotes.
     pub fn meaning(&self, name: &[u8]) -> Option<Meaning>
         ensures { result ≡ meaning_of self.now name.now }
     {
@@ -46,7 +45,7 @@ impl<'a> Scope<'a> {
         })
     }
 
-    /// The number of the sort that a word of this meaning has.
+    /// Returns the number of the sort of a symbol or variable.
     pub fn sort(&self, meaning: Option<Meaning>) -> Option<u32>
         ensures { result ≡ sort_at self.now meaning }
     {
@@ -57,7 +56,7 @@ impl<'a> Scope<'a> {
         *self.sorts.get(number)?
     }
 
-    /// The numbers of the sorts that the arguments of such a word have; a variable has none.
+    /// Returns the numbers of the argument sorts of a symbol; a variable has none.
     pub fn arguments(&self, meaning: Option<Meaning>) -> &[Option<u32>]
         ensures { result.now ≡ arguments_at self.now meaning }
     {
@@ -70,7 +69,7 @@ impl<'a> Scope<'a> {
         }
     }
 
-    /// Whether such a word is an operator.
+    /// Returns whether this is an operator.
     pub fn is_operator(&self, meaning: Option<Meaning>) -> bool
         ensures { result ≡ is_operator self.now meaning }
     {

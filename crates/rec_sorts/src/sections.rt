@@ -1,4 +1,4 @@
-//! The rules and terms of a specification: heads, sides and variables.
+//! The rules and EVAL terms of a specification: roots, sides and variables.
 
 ghost use Rattle.std.specs.Prelude.{◌≡◌, All, IfOk, OnOk, false, map};
 ghost use Rattle.rec_syntax.specs.Parts.{IsTerm, IsRule, IsCondition, term_of, condition_of};
@@ -14,14 +14,14 @@ use crate::terms::{Placed, Room, bare_letters};
 use rec_syntax::{Condition, Rule, Syntax, Term};
 use std::alloc::{AllocError, Global};
 
-/// The letters of a rule, a term or some of them, and the least places at which they break rules.
+/// Rules or terms in postfix form, and the least offsets at which they violate rules.
 #[derive(Drop)]
 struct Read<T> {
     letters: T,
     places: TermPlaces,
 }
 
-/// The letters of all rules and terms, and the least places at which they break rules.
+/// All rules and EVAL terms in postfix form, and the least offsets at which they violate rules.
 #[derive(Drop)]
 pub struct Sections {
     pub rules: Vec<LetterRule>,
@@ -29,7 +29,7 @@ pub struct Sections {
     pub places: TermPlaces,
 }
 
-/// The least place of a variable that is not bound.
+/// Returns the least offset of a variable that is not bound.
 fn unbound_place(letters: &[Placed], bound: &Bound) -> Option<u32>
     ensures { result ≡ unbound_among (binds_variable bound.now.letters.now) letters.now }
 {
@@ -40,14 +40,14 @@ fn unbound_place(letters: &[Placed], bound: &Bound) -> Option<u32>
     least
 }
 
-/// Whether a word is a variable.
+/// Returns whether a name is a variable.
 fn is_variable(meaning: Option<Meaning>) -> bool
     ensures { result ≡ is_unbound (λ _. false) meaning }
 {
     matches!(meaning, Some(Meaning::Variable(_)))
 }
 
-/// The least place of a variable.
+/// Returns the least offset of a variable.
 fn first_variable(letters: &[Placed]) -> Option<u32>
     ensures { result ≡ unbound_among (λ _. false) letters.now }
 {
@@ -67,7 +67,7 @@ impl Scope<'_> {
     ghost use Rattle.rec_sorts.specs.Letters.{bare};
     ghost use Rattle.rec_sorts.specs.Least.{joined};
 
-    /// The place of a term's first word, where this is no operator.
+    /// Returns the offset of a term's root if it is not an operator.
     fn ill_headed_place(&self, letters: &[Placed]) -> Option<u32>
         ensures { result ≡ ill_headed_at self.now letters.now }
     {
@@ -75,7 +75,7 @@ impl Scope<'_> {
         place_where(!self.is_operator(head.meaning), head.at)
     }
 
-    /// The place of the left one of two terms, where their sorts differ.
+    /// Returns the offset of the left one of two terms if their sorts differ.
     fn unlike_place(&self, left: &[Placed], right: &[Placed]) -> Option<u32>
         ensures { result ≡ unlike_at self.now left.now right.now }
     {
@@ -85,8 +85,8 @@ impl Scope<'_> {
         place_where(!alike, left.at)
     }
 
-    /// The terms of a condition of a rule that binds these variables, in the room, and where the
-    /// condition breaks a rule.
+    /// Reads the terms of a condition into `room`, and returns the offsets at which the condition
+    /// violates rules. `bound` has the variables of the rule's left-hand side.
     #[inline]
     fn condition_terms(
         &self,
@@ -116,7 +116,7 @@ impl Scope<'_> {
         Ok(left.join(right).join(own))
     }
 
-    /// A condition of a rule that binds these variables.
+    /// Reads a condition of a rule whose left-hand side has the variables `bound`.
     fn condition(
         &self,
         alloc: Global,
@@ -144,7 +144,7 @@ impl Scope<'_> {
         })
     }
 
-    /// The conditions of such a rule.
+    /// Reads the conditions of a rule whose left-hand side has the variables `bound`.
     fn conditions(
         &self,
         alloc: Global,
@@ -169,8 +169,8 @@ impl Scope<'_> {
         Ok(Read { letters, places })
     }
 
-    /// The sides of a rule, the left one in place of what `left` held and the right one in the
-    /// room, and where each breaks a rule by itself.
+    /// Reads the sides of a rule: the left-hand side into `left`, the right-hand side into `room`.
+    /// Returns the offsets at which each side on its own violates rules.
     #[inline]
     fn sides(
         &self,
@@ -192,8 +192,8 @@ impl Scope<'_> {
         Ok(of_left.join(of_right))
     }
 
-    /// A rule whose sides were read, with the variables of the left one bound; its places are those
-    /// at which no side breaks a rule by itself.
+    /// Completes a rule whose sides were read. Its offsets are those of violations that no side
+    /// causes on its own.
     #[inline]
     fn bound_rule(
         &self,
@@ -229,7 +229,7 @@ impl Scope<'_> {
         })
     }
 
-    /// A rule, whose left side's letters take the place of what `left` held.
+    /// Reads a rule. The items of its left-hand side replace the contents of `left`.
     fn rule(
         &self,
         alloc: Global,
@@ -252,7 +252,7 @@ impl Scope<'_> {
         })
     }
 
-    /// The rules.
+    /// Reads the rules.
     fn rules(
         &self,
         alloc: Global,
@@ -276,7 +276,7 @@ impl Scope<'_> {
         Ok(Read { letters, places })
     }
 
-    /// A term to evaluate.
+    /// Reads an EVAL term.
     #[inline]
     fn open_term(
         &self,
@@ -302,7 +302,7 @@ impl Scope<'_> {
         })
     }
 
-    /// The terms to evaluate.
+    /// Reads the EVAL terms.
     fn terms(
         &self,
         alloc: Global,
@@ -325,7 +325,9 @@ impl Scope<'_> {
         Ok(Read { letters, places })
     }
 
-    /// The rules and the terms to evaluate of a specification that declares this.
+    /// Reads the rules and EVAL terms of a specification with these declarations. The vectors of
+    /// the term that is being read are reused; results are copied into exactly as much room as they
+    /// take.
     pub fn sections(&self, alloc: Global, syntax: &Syntax) -> Result<Sections, AllocError>
         requires { self.now.source.now ≡ syntax.now.source }
         ensures rules { IfOk result

@@ -15,22 +15,23 @@ use crate::scope::Scope;
 use rec_syntax::{Span, Syntax};
 use std::alloc::{AllocError, Global};
 
-/// The sorts of a specification, and the least place of one that is declared twice.
+/// The sorts of a specification, and the least offset of one that is declared twice.
 #[derive(Drop)]
 struct ReadSorts<'a> {
     sorts: Sorts<'a>,
     repeated: Option<u32>,
 }
 
-/// The least place of a symbol that is declared twice, and that of a variable whose name has a
-/// number.
+/// The least offset of a symbol that is declared twice, and that of a variable whose name has a
+/// number already.
 #[derive(Clone, Copy)]
 struct Repeated {
     symbol: Option<u32>,
     variable: Option<u32>,
 }
 
-/// The numbers of symbols and variables, how many are symbols, and where they are declared twice.
+/// The numbers of symbols and variables, the number of symbols, and the offsets of names that are
+/// declared twice.
 #[derive(Drop)]
 struct NumberedWords<'a> {
     words: Names<'a>,
@@ -38,8 +39,8 @@ struct NumberedWords<'a> {
     repeated: Repeated,
 }
 
-/// The symbols and variables of a specification, and the least places at which declarations break
-/// a rule.
+/// The declarations of a specification, and the least offset of a violation of each of the rules S1
+/// to S4.
 #[derive(Drop)]
 pub struct ReadScope<'a> {
     pub scope: Scope<'a>,
@@ -49,7 +50,7 @@ pub struct ReadScope<'a> {
     pub unknown_sort: Option<u32>,
 }
 
-/// The sorts of a specification.
+/// Reads the sorts of a specification.
 fn read_sorts(alloc: Global, syntax: &Syntax) -> Result<ReadSorts<'_>, AllocError>
     ensures source { IfOk result (λ r. r.sorts.source.now ≡ syntax.now.source) }
     ensures names { IfOk result (λ r. given_to r.sorts.names ≡ first_at syntax.now.spec.sorts) }
@@ -65,7 +66,7 @@ fn read_sorts(alloc: Global, syntax: &Syntax) -> Result<ReadSorts<'_>, AllocErro
     })
 }
 
-/// The declarations of a specification with these sorts, and how many of the words are symbols.
+/// Reads the declarations of a specification with these sorts. Also returns the number of symbols.
 fn read_declared(
     alloc: Global,
     syntax: &Syntax,
@@ -83,7 +84,7 @@ fn read_declared(
     Ok((declared, symbols))
 }
 
-/// Numbers the words, of which so many are symbols.
+/// Numbers the names. The first `count` ones are symbols.
 fn number_parts<'a>(
     names: &mut Names<'a>,
     source: &'a [u8],
@@ -107,7 +108,7 @@ fn number_parts<'a>(
     Ok(Repeated { symbol, variable })
 }
 
-/// The numbers of the words that a specification declares, of which so many are symbols.
+/// Numbers the names that a specification declares. The first `count` ones are symbols.
 fn number_declared<'a>(
     alloc: Global,
     syntax: &'a Syntax,
@@ -133,7 +134,7 @@ fn number_declared<'a>(
     })
 }
 
-/// The symbols and variables of a specification with these sorts.
+/// Reads the symbols and variables of a specification with these sorts.
 fn read_words<'a>(
     alloc: Global,
     syntax: &'a Syntax,
@@ -163,7 +164,7 @@ fn read_words<'a>(
     })
 }
 
-/// What a specification declares.
+/// Reads the declarations of a specification.
 pub fn read_scope(alloc: Global, syntax: &Syntax) -> Result<ReadScope<'_>, AllocError>
     ensures { IfOk result (IsReadScope syntax.now.spec syntax.now.source) }
 {

@@ -1,4 +1,4 @@
-//! The words of a term: what they stand for, how many arguments they have, and the sorts of these.
+//! The items of a term: their declarations, numbers of arguments, and sorts.
 
 ghost use Rattle.std.specs.Prelude.{◌≡◌, [], IfOk, OnOk, All, map};
 ghost use Rattle.rec_syntax.specs.Parts.{Within, IsTerm, node_of, term_of};
@@ -10,8 +10,7 @@ use crate::scope::Scope;
 use rec_syntax::{Node, Term};
 use std::alloc::{AllocError, Global};
 
-/// A word of a term: what it stands for, where it is declared, the number of its arguments, and its
-/// place.
+/// A postfix item with its offset. Its meaning is `None` if the name is not declared.
 #[derive(Clone, Copy, Debug)]
 pub struct Placed {
     pub meaning: Option<Meaning>,
@@ -19,8 +18,8 @@ pub struct Placed {
     pub at: u32,
 }
 
-/// Room for the letters of two terms and for the heads of a term's arguments, which is used again
-/// for each term.
+/// Buffers for the items of two terms and for the roots of a term's arguments. They are reused for
+/// each term.
 #[derive(Drop)]
 pub struct Room {
     pub left: Vec<Placed>,
@@ -29,7 +28,7 @@ pub struct Room {
 }
 
 impl Room {
-    /// Room that holds nothing yet.
+    /// Returns empty buffers.
     pub fn new(alloc: Global) -> Room {
         Room {
             left: Vec::new(alloc),
@@ -39,7 +38,7 @@ impl Room {
     }
 }
 
-/// The letters without their places; a word that is not declared becomes the symbol 0.
+/// Returns the items without their offsets. A name that is not declared becomes symbol 0.
 pub fn bare_letters(alloc: Global, letters: &[Placed]) -> Result<Vec<Letter>, AllocError>
     ensures { IfOk result (λ v. v.items ≡ bare letters.now) }
 {
@@ -53,7 +52,7 @@ pub fn bare_letters(alloc: Global, letters: &[Placed]) -> Result<Vec<Letter>, Al
     Ok(kept)
 }
 
-/// The least place of a word that is not declared.
+/// Returns the least offset of a name that is not declared.
 fn unknown_place(letters: &[Placed]) -> Option<u32>
     ensures { result ≡ unknown_among letters.now }
 {
@@ -69,7 +68,7 @@ impl Scope<'_> {
     ghost use Rattle.rec_sorts.specs.Letters.{ill_sorted_among};
     ghost use Rattle.rec_sorts.specs.Reading.{IsReadTerm};
 
-    /// The letters of a term's words, in place of what the vector held.
+    /// Reads the items of a term; they replace the contents of `letters`.
     fn letters(&self, nodes: &[Node], letters: &mut Vec<Placed>) -> Result<(), AllocError>
         requires { All (λ n. Within self.now.source.now n.word) nodes.now }
         ensures { OnOk result (letters.new.items
@@ -86,7 +85,7 @@ impl Scope<'_> {
         Ok(())
     }
 
-    /// The least place of a word with another number of arguments than declared.
+    /// Returns the least offset of a name with the wrong number of arguments.
     fn ill_filled_place(&self, letters: &[Placed]) -> Option<u32>
         ensures { result ≡ ill_filled_among self.now letters.now }
     {
@@ -98,7 +97,7 @@ impl Scope<'_> {
         least
     }
 
-    /// The least place of an argument with another sort than the one for it.
+    /// Returns the least offset of an argument whose sort is not the one for its position.
     fn misplaced_place(&self, arguments: &[Placed], sorts: &[Option<u32>]) -> Option<u32>
         ensures { result ≡ misplaced self.now arguments.now sorts.now }
     {
@@ -110,8 +109,8 @@ impl Scope<'_> {
         least
     }
 
-    /// The least place of an argument with another sort than declared, by a stack of the heads of
-    /// the terms so far.
+    /// Returns the least offset of an argument whose sort is not the declared one. `heads` is a
+    /// stack of the roots of the terms so far.
     fn ill_sorted_place(
         &self,
         letters: &[Placed],
@@ -131,8 +130,8 @@ impl Scope<'_> {
         Ok(least)
     }
 
-    /// The letters of a term, in place of what the vector held, and where it breaks a rule by
-    /// itself.
+    /// Reads the items of a term, which replace the contents of `letters`, and returns the offsets
+    /// at which the term on its own violates rules.
     pub fn term(
         &self,
         term: &Term,

@@ -1,4 +1,4 @@
-//! Walks over terms of a bank, by a stack of references.
+//! Walks over terms of a store, with a stack of term references.
 
 ghost use Rattle.std.specs.Prelude.{◌≡◌, ◌++◌, IsSome, IfOk, OnOk, flat_map};
 ghost use Rattle.rx_term.specs.Tree.{to_list, items_of};
@@ -11,14 +11,14 @@ ghost use Rattle.rec_sorts.specs.Walking.{backwards, unstacked};
 use rx_term::{Kind, Term, TermBank};
 use std::alloc::{AllocError, Global};
 
-/// The nodes of a list's items, and those below the items.
+/// All subterms of a list's items, and those of them that are not items themselves.
 #[derive(Drop)]
 pub struct ListNodes {
     pub all: Vec<Term>,
     pub inner: Vec<Term>,
 }
 
-/// Pushes the items of a list, in their order; nothing, where the term is no list.
+/// Pushes the items of a list, in their order. Pushes nothing if the term is not a list.
 pub fn push_items<B: TermBank>(
     bank: &B,
     list: Term,
@@ -38,7 +38,7 @@ pub fn push_items<B: TermBank>(
     Ok(())
 }
 
-/// The items of a list, in their order; none, where the term is no list.
+/// Returns the items of a list, in their order. Returns none if the term is not a list.
 pub fn list_items<B: TermBank>(alloc: Global, bank: &B, list: Term) -> Result<Vec<Term>, AllocError>
     requires { IsSome (tree_at (B.store bank.now) list) }
     ensures held { IfOk result (λ v. AllHeld (B.store bank.now) v.items) }
@@ -50,7 +50,7 @@ pub fn list_items<B: TermBank>(alloc: Global, bank: &B, list: Term) -> Result<Ve
     Ok(items)
 }
 
-/// Pushes the arguments of a term, from left to right; nothing, where it is no application.
+/// Pushes the arguments of a term, from left to right. Pushes nothing if it is not an application.
 fn push_arguments<B: TermBank>(
     bank: &B,
     term: Term,
@@ -69,7 +69,7 @@ fn push_arguments<B: TermBank>(
     }
 }
 
-/// The arguments of some terms, from left to right.
+/// Returns the arguments of some terms, from left to right.
 fn arguments<B: TermBank>(alloc: Global, bank: &B, terms: &[Term]) -> Result<Vec<Term>, AllocError>
     requires { AllHeld (B.store bank.now) terms.now }
     ensures held { IfOk result (λ v. AllHeld (B.store bank.now) v.items) }
@@ -83,8 +83,8 @@ fn arguments<B: TermBank>(alloc: Global, bank: &B, terms: &[Term]) -> Result<Vec
     Ok(found)
 }
 
-/// The nodes of the terms on a stack, from the last of the last one to the first of the first; a
-/// node stands before its arguments.
+/// Returns the subterms of the terms on a stack, beginning with the last term. A subterm comes
+/// before its arguments, and arguments come from right to left.
 fn nodes<B: TermBank>(
     alloc: Global,
     bank: &B,
@@ -103,7 +103,7 @@ fn nodes<B: TermBank>(
     Ok(found)
 }
 
-/// The nodes of a term, from its last one to its first.
+/// Returns the subterms of a term: the root first, arguments from right to left.
 pub fn term_nodes<B: TermBank>(alloc: Global, bank: &B, term: Term) -> Result<Vec<Term>, AllocError>
     requires { IsSome (tree_at (B.store bank.now) term) }
     ensures held { IfOk result (λ v. AllHeld (B.store bank.now) v.items) }
@@ -115,7 +115,7 @@ pub fn term_nodes<B: TermBank>(alloc: Global, bank: &B, term: Term) -> Result<Ve
     nodes(alloc, bank, stack)
 }
 
-/// The nodes of some terms, and those below them.
+/// Returns all subterms of some terms, and the subterms of their arguments.
 pub fn nodes_among<B: TermBank>(
     alloc: Global,
     bank: &B,
@@ -131,7 +131,7 @@ pub fn nodes_among<B: TermBank>(
     Ok(ListNodes { all, inner })
 }
 
-/// The nodes of a list's items.
+/// Returns all subterms of a list's items, and the subterms of their arguments.
 pub fn list_nodes<B: TermBank>(alloc: Global, bank: &B, list: Term) -> Result<ListNodes, AllocError>
     requires { IsSome (tree_at (B.store bank.now) list) }
     ensures { IfOk result

@@ -1,9 +1,6 @@
 mod ApplicationLemmas
 mod VisitLemmas
-mod ToldLemmas
 mod FittingLemmas
-mod ReportLemmas
 mod CallLemmas
 mod TextLemmas
 mod AddLemmas
-mod FrontLemmas

@@ -11,17 +11,17 @@ use indexmap::IndexSet;
 use rx_term::{Kind, Term, TermBank};
 use std::alloc::{AllocError, Global};
 
-/// What a walk over a value does next.
+/// The next visit of a walk over a value.
 #[derive(Clone, Copy, Drop)]
 pub(crate) enum Visit {
-    /// It goes into a tree.
+    /// Enters a tree.
     Enter(Term),
-    /// It leaves an application, behind all that is inside of it.
+    /// Leaves an application, after all applications inside of it.
     Leave(Term),
 }
 
-/// The different applications in a value by their references, each behind those inside of it, from
-/// left to right.
+/// Returns the references of the different applications in a value, each after those inside of it,
+/// from left to right.
 pub(crate) fn applications<B: TermBank>(
     alloc: Global,
     bank: &B,
@@ -39,7 +39,8 @@ pub(crate) fn applications<B: TermBank>(
     Ok(left)
 }
 
-/// Makes visits and all that come of them: what they leave was left then.
+/// Makes the visits and all that follow from them. Afterwards `left` has the applications that they
+/// leave.
 fn leave_all<B: TermBank>(
     bank: &B,
     visits: &mut Vec<Visit>,
@@ -63,8 +64,8 @@ fn leave_all<B: TermBank>(
     Ok(())
 }
 
-/// Goes into a tree: what is inside comes next, from left to right, and then the tree itself, where
-/// it is an application. One that was left before is passed over.
+/// Enters a tree: its parts are visited next, from left to right, and then the tree itself if it is
+/// an application. An application in `left` is skipped.
 fn enter<B: TermBank>(
     bank: &B,
     t: Term,

@@ -1,4 +1,4 @@
-//! The rules that match a call.
+//! Finds the rules that match a call.
 
 ghost use Rattle.std.specs.Prelude.{◌≡◌, ℕ, IfOk, List, OnOk, length, map};
 ghost use Rattle.rx_term.specs.Walks.{AllHeld, held_tree};
@@ -22,11 +22,12 @@ pub(crate) struct Call {
     pub(crate) term: Term,
     /// The number of its symbol.
     pub(crate) symbol: u32,
-    /// How many arguments it has.
+    /// The number of its arguments.
     pub(crate) count: u32,
 }
 
-/// Of the places of all rules those of the rules that match a call, in their order.
+/// Returns the locations of the rules that match a call, in their order. `spots` has those of all
+/// rules.
 pub(crate) fn fitting_spots<B: TermBank>(
     alloc: Global,
     bank: &B,
@@ -52,7 +53,7 @@ pub(crate) fn fitting_spots<B: TermBank>(
     Ok(found)
 }
 
-/// The first rule, from one on, that matches a call with these arguments.
+/// Returns the first rule, from number `at` on, that matches a call with these arguments.
 fn next_rule<B: TermBank>(
     alloc: Global,
     bank: &B,

@@ -1,15 +1,38 @@
-//! Evaluations whose values are looked at: which calls of operators they hold, from the texts that
-//! come in to the lines that go out.
+//! Reports the stuck calls in the results of a run.
+//!
+//! A stuck call is an application of an operator in a normal form: no rule applies to it.
+//! [`run_stuck`] runs a specification like `rec_run::run_given`, with a [`StuckReport`] as the
+//! reporter of its observer. The report has a line for each different call in each value:
+//!
+//! ```text
+//! stuck: head(nil): no rule matches
+//! stuck: pop(s(s(zero))): the conditions of 12:3, 13:3 fail
+//! ```
+//!
+//! It is used like this:
+//!
+//! ```text
+//! let reporter = StuckReport::new(alloc);
+//! let mut observer = Observer { watch: Unwatched, profiler: Unwatched, reporter };
+//! let report = run_stuck(alloc, &mut spec, &mut NoTerms, &mut out, settings, &mut observer)?;
+//! // observer.reporter.lines: the lines of all values
+//! ```
+//!
+//! **Lines.** A call comes after the calls inside of it, and calls come from left to right. Its
+//! text has no annotations of its own and at most 60 bytes. The reason has the locations of all
+//! rules whose left-hand sides match the call, or states that there are none.
+//!
+//! **Invariants.** The report does not change the output of the run; `specs/Stuck.antt` defines it.
+//!
+//! **Cost.** Each different application in a value is visited once. For each call, the rules of its
+//! symbol are tried in order. The only errors are those of the run.
 #![tactic(auto)]
 
-mod answering;
 mod applications;
 mod fitting;
-mod lines;
 mod reasons;
 mod report;
 mod short_text;
-mod texts;
 mod whole_runs;
 
 pub use report::StuckReport;

@@ -1,4 +1,4 @@
-//! The line of a call, and why it is stuck.
+//! The line of a call, and the reason why it is stuck.
 
 ghost use Rattle.std.specs.Prelude.{◌≡◌, ◌++◌, ◌∷◌, OnOk, codes, decimal};
 ghost use Rattle.rec_stuck.specs.Stuck.{place_text, places_behind, reason};
@@ -7,7 +7,7 @@ use rec_trace::Spot;
 use rx_run::put_numbered;
 use std::alloc::AllocError;
 
-/// A number comes behind a text, and that behind another one.
+/// Appends `before` and a decimal number to a text.
 fn add_number(text: &mut Vec<u8>, before: &[u8], number: u64) -> Result<(), AllocError>
     ensures { OnOk result (text.new.items ≡ text.old.items ++ before.now ++ decimal number) }
 {
@@ -17,7 +17,7 @@ fn add_number(text: &mut Vec<u8>, before: &[u8], number: u64) -> Result<(), Allo
     }
 }
 
-/// A place comes behind a text, and that behind another one.
+/// Appends `before` and a location to a text.
 fn add_place(text: &mut Vec<u8>, before: &[u8], spot: Spot) -> Result<(), AllocError>
     ensures { OnOk result (text.new.items ≡ text.old.items ++ before.now ++ place_text spot) }
 {
@@ -25,7 +25,7 @@ fn add_place(text: &mut Vec<u8>, before: &[u8], spot: Spot) -> Result<(), AllocE
     add_number(text, b":", spot.column)
 }
 
-/// Further places come behind a text.
+/// Appends further locations to a text, each after a comma.
 fn add_places(text: &mut Vec<u8>, spots: &[Spot]) -> Result<(), AllocError>
     ensures { OnOk result (text.new.items ≡ text.old.items ++ places_behind spots.now) }
 {
@@ -35,7 +35,7 @@ fn add_places(text: &mut Vec<u8>, spots: &[Spot]) -> Result<(), AllocError>
     Ok(())
 }
 
-/// Why a call is stuck that the rules match which begin at these places.
+/// Appends the reason why a call is stuck. `spots` has the locations of the rules that match it.
 fn add_reason(text: &mut Vec<u8>, spots: &[Spot]) -> Result<(), AllocError>
     ensures { OnOk result (text.new.items ≡ text.old.items ++ reason spots.now) }
 {
@@ -47,8 +47,8 @@ fn add_reason(text: &mut Vec<u8>, spots: &[Spot]) -> Result<(), AllocError>
     text.extend_from_slice(b" fail")
 }
 
-/// The line of a call comes behind a text: its own text, cut to the width, and the places of the
-/// rules that match it.
+/// Appends the line of a call to a text: the text of the call, cut to the width, and the reason.
+/// `spots` has the locations of the rules that match it.
 pub(crate) fn add_line(lines: &mut Vec<u8>, text: &[u8], spots: &[Spot]) -> Result<(), AllocError>
     ensures { OnOk result (lines.new.items ≡ lines.old.items
         ++ (codes "stuck: " ++ text.now ++ codes ": " ++ reason spots.now ++ codes "\n")) }

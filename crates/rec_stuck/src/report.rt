@@ -6,9 +6,7 @@ ghost use Rattle.rx_term.specs.Store.{tree_at};
 ghost use Rattle.rx_term.specs.Walks.{held_tree};
 ghost use Rattle.rx_term.specs.declared.Symbol.{Symbol};
 ghost use Rattle.rec_sorts.specs.Linked.{AreLinked, NumberOf};
-ghost use Rattle.rec_run.specs.EvaluatedLines.{HoldsValue};
 ghost use Rattle.rec_stuck.specs.Inner.Calls.{AreSpots, IsCallOf, IsCalled, line_if};
-ghost use Rattle.rec_stuck.specs.Inner.Calls.{outcome_report};
 ghost use Rattle.rec_stuck.specs.Stuck.{stuck_line, stuck_text};
 ghost use Rattle.rec_stuck.specs.Inner.Visits.{AreThere, reference};
 
@@ -17,24 +15,23 @@ use crate::fitting::{Call, fitting_spots};
 use crate::reasons::add_line;
 use crate::short_text::short_text;
 use indexmap::IndexSet;
-use rec_engine::{Engine, Outcome};
-use rec_run::Observer;
-use rec_trace::Spot;
+use rec_engine::Engine;
+use rec_run::Reporter;
+use rec_sorts::Checked;
+use rec_trace::{Spot, rule_spots};
 use rx_term::{Kind, Symbol, Term, TermBank};
 use std::alloc::{AllocError, Global};
 
-/// What a run tells of the calls of operators in its values, and of its evaluations.
+/// The report of the stuck calls in the results of a run.
 #[derive(Drop)]
-pub struct StuckReport<V, P> {
+pub struct StuckReport {
     /// A line for each of the calls.
     pub lines: Vec<u8>,
-    /// Who is told of the evaluations.
-    pub observer: Observer<V, P>,
-    /// Where each rule of the specification begins, while that is looked at.
+    /// The locations of the specification's rules. They are set before the first value is reported.
     pub(crate) spots: Vec<Spot>,
 }
 
-/// The call that a term is, where it is an application of an operator.
+/// Returns the call that a term is, if it is an application of an operator.
 fn call_of<B: TermBank>(engine: &Engine<B>, t: Term) -> Option<Call>
     requires { IsSome (tree_at (B.store engine.now.bank) t) }
     ensures { IsCallOf engine.now.spec (B.store engine.now.bank) t result }
@@ -45,7 +42,7 @@ fn call_of<B: TermBank>(engine: &Engine<B>, t: Term) -> Option<Call>
     }
 }
 
-/// The same of an application.
+/// Returns the call that an application is, if its symbol is an operator.
 fn call_by<B: TermBank>(engine: &Engine<B>, t: Term, symbol: Symbol) -> Option<Call>
     requires { HasAppl (B.store engine.now.bank) t symbol }
     ensures { IsCallOf engine.now.spec (B.store engine.now.bank) t result }
@@ -56,7 +53,7 @@ fn call_by<B: TermBank>(engine: &Engine<B>, t: Term, symbol: Symbol) -> Option<C
     }
 }
 
-/// The same of an application of the symbol of a number.
+/// Returns the call that an application of symbol number `number` is, if this is an operator.
 fn numbered_call<B: TermBank>(
     engine: &Engine<B>,
     t: Term,
@@ -78,40 +75,45 @@ fn numbered_call<B: TermBank>(
     })
 }
 
-impl<V, P> StuckReport<V, P> {
-    /// A report without lines.
-    pub fn new(alloc: Global, observer: Observer<V, P>) -> StuckReport<V, P>
+impl Reporter for StuckReport {
+    ghost told = { λ s. s.lines.items };
+
+    ghost is_ready = { λ s source y. AreSpots source y s.spots.items };
+
+    ghost says = { stuck_text };
+
+    fn begin(&mut self, alloc: Global, checked: &Checked) -> Result<(), AllocError> {
+        match rule_spots(alloc, checked.syntax()) {
+            Ok(spots) => {
+                self.spots = spots;
+                Ok(())
+            }
+            Err(AllocError) => Err(AllocError),
+        }
+    }
+
+    fn report<B: TermBank>(
+        &mut self,
+        alloc: Global,
+        engine: &Engine<B>,
+        value: Term,
+    ) -> Result<(), AllocError> {
+        self.add_value(alloc, engine, value)
+    }
+}
+
+impl StuckReport {
+    /// Returns a report without lines.
+    pub fn new(alloc: Global) -> StuckReport
         ensures { result.lines.items ≡ [] }
     {
         StuckReport {
             lines: Vec::new(alloc),
-            observer,
             spots: Vec::new(alloc),
         }
     }
 
-    /// The lines of the calls in what a term came to come behind the report.
-    pub(crate) fn add_outcome<B: TermBank>(
-        &mut self,
-        alloc: Global,
-        engine: &Engine<B>,
-        outcome: Outcome,
-    ) -> Result<(), AllocError>
-        requires held { HoldsValue (B.store engine.now.bank) outcome }
-        requires spots { (source : List ℕ) × AreSpots source engine.now.spec self.old.spots.items }
-        ensures spots { self.new.spots ≡ self.old.spots }
-        ensures lines { OnOk result ((source : List ℕ)
-            → AreSpots source engine.now.spec self.old.spots.items
-            → self.new.lines.items ≡ self.old.lines.items
-            ++ outcome_report source engine.now.spec (B.store engine.now.bank) outcome) }
-    {
-        match outcome {
-            Outcome::Value { term, steps: _ } => self.add_value(alloc, engine, term),
-            Outcome::Limit => Ok(()),
-        }
-    }
-
-    /// The lines of the calls in a value come behind the report.
+    /// Appends the lines of the calls in a value to the report.
     fn add_value<B: TermBank>(
         &mut self,
         alloc: Global,
@@ -130,7 +132,7 @@ impl<V, P> StuckReport<V, P> {
         self.add_applications(alloc, engine, &found)
     }
 
-    /// The lines of those applications that are calls come behind the report.
+    /// Appends the lines of those applications that are calls to the report.
     fn add_applications<B: TermBank>(
         &mut self,
         alloc: Global,
@@ -155,7 +157,7 @@ impl<V, P> StuckReport<V, P> {
         Ok(())
     }
 
-    /// The line of an application comes behind the report, where it is a call.
+    /// Appends the line of an application to the report, if it is a call.
     fn add_application<B: TermBank>(
         &mut self,
         alloc: Global,
@@ -176,7 +178,7 @@ impl<V, P> StuckReport<V, P> {
         }
     }
 
-    /// The line of a call comes behind the report.
+    /// Appends the line of a call to the report.
     fn add_call<B: TermBank>(
         &mut self,
         alloc: Global,

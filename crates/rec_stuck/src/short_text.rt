@@ -15,13 +15,13 @@ use std::alloc::{AllocError, Global};
 use std::io;
 use std::io::Write;
 
-/// The most bytes of a term; a longer text ends in `...`.
+/// The largest length of a term in bytes; a longer text ends in `...`.
 const WIDTH: usize = 60;
 
-/// A writer that takes one byte more than the most, and then refuses.
+/// A writer that accepts one byte more than the largest length, and no byte after that.
 #[derive(Drop)]
 pub(crate) struct Front {
-    /// What it took.
+    /// The bytes that it accepted.
     bytes: Vec<u8>,
 }
 
@@ -40,7 +40,7 @@ impl Write for Front {
     }
 }
 
-/// A text of more bytes than the most ends in dots.
+/// Cuts a text of more than the largest length, which then ends in three dots.
 fn cut_long(text: &mut Vec<u8>) -> Result<(), AllocError>
     ensures { OnOk result (text.new.items ≡ cut (Some 60) text.old.items) }
 {
@@ -51,7 +51,8 @@ fn cut_long(text: &mut Vec<u8>) -> Result<(), AllocError>
     text.extend_from_slice(b"...")
 }
 
-/// The beginning of the text of a term: no more of it is made than may be shown, and a byte.
+/// Returns the beginning of the text of a term: all of it, or one byte more than the largest
+/// length.
 fn beginning<B: TermBank>(alloc: Global, bank: &B, t: Term) -> Result<Vec<u8>, AllocError>
     requires { IsSome (tree_at (B.store bank.now) t) }
     ensures { IfOk result (λ text. Begins (held_tree (B.store bank.now) t) text.items) }
@@ -68,7 +69,7 @@ fn beginning<B: TermBank>(alloc: Global, bank: &B, t: Term) -> Result<Vec<u8>, A
     }
 }
 
-/// The text of a term, but for its annotations.
+/// Returns the text of a term without its annotations.
 fn text_without_notes<B: TermBank>(alloc: Global, bank: &B, t: Term) -> Result<Vec<u8>, AllocError>
     requires { IsSome (tree_at (B.store bank.now) t) }
     ensures { IfOk result
@@ -88,7 +89,7 @@ fn text_without_notes<B: TermBank>(alloc: Global, bank: &B, t: Term) -> Result<V
     Ok(text)
 }
 
-/// The beginning of the text of a term without its annotations.
+/// Returns the beginning of the text of a term without its annotations, or all of it.
 fn bare_beginning<B: TermBank>(alloc: Global, bank: &B, t: Term) -> Result<Vec<u8>, AllocError>
     requires { IsSome (tree_at (B.store bank.now) t) }
     ensures { IfOk result (λ text. Begins (bare_of (held_tree (B.store bank.now) t)) text.items) }
@@ -99,7 +100,7 @@ fn bare_beginning<B: TermBank>(alloc: Global, bank: &B, t: Term) -> Result<Vec<u
     }
 }
 
-/// The text of a term without its annotations, cut to the width.
+/// Returns the text of a term without its annotations, cut to the largest length.
 pub(crate) fn short_text<B: TermBank>(
     alloc: Global,
     bank: &B,

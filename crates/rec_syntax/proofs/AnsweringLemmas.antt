@@ -32,7 +32,7 @@ first_step : (c : State) (ps rest : List Placed) (t : Token) (at : ℕ) (o : Opt
     → outcome (Some c) 0 ps ≡ outcome o at rest
 first_step c ps rest t at o cut e = ap (λ (qs : List Placed). outcome (Some c) 0 qs) cut ∙ ap (λ (x : Option State). outcome x at rest) e
 
--- the state behind a token decides as the state before it did
+-- the state after a token decides as the state before it did
 pub turn : (bytes : List ℕ) (c after : State) (ps rest : List Placed) (t : Token) (at : ℕ) → Decides bytes c ps → ps ≡ placed t at ∷ rest
     → step c.due c.read t ≡ Some after → Decides bytes after rest
 turn bytes c after ps rest t at h cut e = outcome-last after 0 at rest ∙ sym (first_step c ps rest t at (Some after) cut e) ∙ h
@@ -49,19 +49,19 @@ spelled bytes c after ps at h cut e =
     let over : after.due ≡ machine.Done = subst Over e (step_over c.due c.read) in
     read_spells bytes after.read (sym h ∙ first_step c ps [] token.End at (Some after) cut e ∙ ap (λ (d : machine.Due). stopped d after.read) over)
 
--- behind a token that is not the end, more follows
+-- after a token that is not the end, more follows
 pub behind_is : (bytes : List ℕ) (k : LexemeKind) (to : ℕ) → (k ≡ End → ⊥) → behind bytes k to ≡ tokens_from bytes to
 behind_is bytes End to h = absurd (h refl)
 behind_is bytes k to h = refl
 
--- the reader stands at an offset, in a state of which P holds with the tokens that are left
+-- the reader is at an offset, in a state of which P holds with the tokens that are left
 pub record Reads (source : Vec ℕ Global) (P : State → List Placed → Type 0) (from : ℕ) (d : Due) (r : Reader) : Type 0 where
   pub within : from ≤ length source.items
   pub same : r.source ≡ source
   pub state : IsState source.items d r
   pub follows : P (state_of source.items d r) (tokens_from source.items from)
 
--- behind a token that is not the end it stands so too
+-- after a token that is not the end it stands so too
 pub reads_on : (source : Vec ℕ Global) (P : State → List Placed → Type 0)
     → ((c after : State) (ps rest : List Placed) (t : Token) (at : ℕ) → P c ps → ps ≡ placed t at ∷ rest → step c.due c.read t ≡ Some after → P after rest)
     → (from : ℕ) (d e : Due) (r after : Reader) (x : Lexeme) (text : List ℕ) → Reads source P from d r → (x.kind ≡ End → ⊥)

@@ -45,7 +45,7 @@ vars_taken (v ∷ vs) y us l (a, (b, e, (c, k, (d, f, g))), r) =
     rw e (group_taken v.first [] v.others y b c k ∙ rw (f, g) (vars_taken vs (record y { variables = y.variables ++ v ∷ [] }) a l r
     ∙ rw (append_assoc y.variables (v ∷ []) vs) refl))
 
--- what may stand behind a rule or a term of EVAL: a word, a section's word, or END-SPEC
+-- what may be after a rule or a term of EVAL: a word, a section's word, or END-SPEC
 abbrev pub Ends : List Token → Type 0
 Ends (Plain w ∷ us) = Unit {0}
 Ends (Head s ∷ us) = Unit {0}

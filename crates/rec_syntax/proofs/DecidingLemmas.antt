@@ -28,7 +28,7 @@ scan_closed at covered [] = refl
 scan_closed at (suc covered) (b ∷ bytes) = scan_closed (at + 1) covered bytes
 scan_closed at zero (b ∷ bytes) = in_front_closed (token_at at b bytes) at (scan (at + 1) (extra b bytes) bytes) (scan_closed (at + 1) (extra b bytes) bytes)
 
--- nothing is due behind the end
+-- nothing is due after the end
 abbrev pub Over : Option State → Type 0
 Over None = Unit {0}
 Over (Some c) = c.due ≡ Done

@@ -1,4 +1,4 @@
--- What may stand at the place of a fault is what the machine takes there.
+-- What may be at the place of a fault is what the machine takes there.
 use Rattle.std.proofs.Common.{◌≡◌, ◌↔◌, ℕ, Bool, true, false, List, [], ◌∷◌, ◌++◌, Option, Some, None, is_some, refl, sym}
 use Rattle.std.proofs.Common.{ap, subst, ◌∙◌, append_assoc, drop, length, reverse, arith, Contains, not, ◌⊎◌, inl, inr}
 use Rattle.std.proofs.lemmas.List.{append-nil, length-reverse}
@@ -88,7 +88,7 @@ by_kind d y Equal t e = ap (λ (u : Token). is_some (step d y u)) e
 by_kind d y Unequal t e = ap (λ (u : Token). is_some (step d y u)) e
 by_kind d y End t e = ap (λ (u : Token). is_some (step d y u)) e
 
--- behind a right side, and behind a condition's right term, a rule may end
+-- after a right-hand side, and after a condition's right term, a rule may end
 pub rule_ends : (l r : Term) (y : Spec) (k : TokenKind) → (k ≡ If → ⊥)
     → is_taken (complete (Right l) r y) k ≡ is_taken (between (In tokens.Rules) (with_rule y (record { left = l; right = r; conditions = [] }))) k
 rule_ends l r y If h = absurd (h refl)
@@ -100,7 +100,7 @@ pub conditions_end : (l r : Term) (cs : List Condition) (x : Term) (e : Bool) (t
 conditions_end l r cs x e t y AndIf h = absurd (h refl)
 conditions_end l r cs x e t y k h = refl
 
--- behind a whole argument
+-- after a whole argument
 abbrev goes_on : TokenKind → Bool
 goes_on Comma = true
 goes_on Close = true
@@ -147,7 +147,7 @@ begins_some : (us : List Token) (c : State) (t : Token) (o : Option State) → r
 begins_some us c t None e f h = absurd (refused_begins_none us c t e f h)
 begins_some us c t (Some d) e f h = refl
 
--- behind tokens that lead to a state, just the kinds that it takes may stand
+-- after tokens that lead to a state, just the kinds that it takes may stand
 pub may_stand : (us : List Token) (c : State) (k : TokenKind) → run (Some start) us ≡ Some c → (is_taken (step c.due c.read) k ≡ true) ↔ MayStand us k
 may_stand us c k e = (
   λ h. (
@@ -174,7 +174,7 @@ reached_next bytes c d ps rest t at r e f = record {
   led = rw (bare-append r.before (placed t at ∷ [])) (one_more (bare r.before) c t (Some d) r.led f);
 }
 
--- a state is the one behind the tokens before the fault
+-- a state is the one after the tokens before the fault
 abbrev pub IsFaultState : List ℕ → State → Type 0
 IsFaultState bytes c = (at : ℕ) (fault : IsFaultPlace bytes at) → run (Some start) (bare fault.before) ≡ Some c
 

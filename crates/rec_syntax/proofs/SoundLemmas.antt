@@ -13,7 +13,7 @@ use Rattle.rec_syntax.proofs.SoundSectionLemmas.{Sofar, sofar_spelled, head_take
 use Rattle.rec_syntax.proofs.SoundSectionLemmas.{sort_read, cons_read, opns_read, vars_read, rule_read, eval_read}
 use Rattle.rec_syntax.proofs.SoundTermLemmas.{opening, listed-snoc, closed_term, keyed-last, keyed-more, before_term}
 
--- CONS where the flag is set, else OPNS
+-- CONS where the flag is set, otherwise OPNS
 abbrev section_of : Bool → Section
 section_of true = Cons
 section_of false = Opns
@@ -35,7 +35,7 @@ Taken (After p t fs) y ts l = (before_term p y then opening fs then term t) ts l
 Taken Ended y ts l = (sections (up_to (In Eval)) y then token EndSpec) ts l
 Taken Done y ts l = specification y ts l
 
--- the tokens that lead to a state, where there is one
+-- the tokens that lead to a state, if there is one
 abbrev IfTaken : Option State → Phrase
 IfTaken None ts l = Unit {0}
 IfTaken (Some c) ts l = Taken c.due c.read ts l

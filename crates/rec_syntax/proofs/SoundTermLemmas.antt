@@ -6,7 +6,7 @@ use Rattle.rec_syntax.specs.Grammar.{Phrase, ◌then◌, nothing, token, word, e
 use Rattle.rec_syntax.specs.Inner.Machine.{Frame, snoc, Role, Left, Right, CondLeft, CondRight, InEval, In}
 use Rattle.rec_syntax.proofs.SoundSectionLemmas.{Sofar}
 
--- arguments, each with a comma behind it
+-- arguments, each with a comma after it
 abbrev listed : Terms → Phrase
 listed none = nothing
 listed (more t ts) = term t then token Comma then listed ts
@@ -16,7 +16,7 @@ abbrev pub opening : List Frame → Phrase
 opening [] = nothing
 opening (f ∷ fs) = opening fs then word f.word then token Open then listed f.arguments
 
--- the arguments behind an opening parenthesis, and the closing one
+-- the arguments after an opening parenthesis, and the closing one
 abbrev to_close : Terms → Phrase
 to_close none = token Close
 to_close (more t ts) = term t then further_arguments ts
@@ -42,7 +42,7 @@ pub closed_term : (w : Word) (ts : Terms) (t : Term) (a b m l : List Token) → 
 closed_term w none t a b m l e k s = (Open ∷ b, e, (b, refl, listed-close none t b m l k s))
 closed_term w (more x xs) t a b m l e k s = (Open ∷ b, e, (b, refl, listed-close (more x xs) t b m l k s))
 
--- conditions, and the word behind them
+-- conditions, and the word after them
 abbrev keyed : Token → List Condition → Phrase
 keyed key [] = token key
 keyed key (c ∷ cs) = token key then condition c then keyed AndIf cs

@@ -170,7 +170,7 @@ alone [] h = absurd (omega arith)
 alone (x ∷ []) h = refl
 alone (x ∷ y ∷ made) h = absurd (omega arith)
 
--- where no application is open, the nodes are those of one term
+-- if no application is open, the nodes are those of one term
 pub whole_term : (bytes : List ℕ) (calls : List Call) (ns : List Node) (t : Term) → calls ≡ [] → IsStack bytes 1 calls ns → t.nodes.items ≡ ns → IsTerm bytes t
 whole_term bytes calls ns t e s same =
     let made : List syntax.Term = made_of bytes ns in

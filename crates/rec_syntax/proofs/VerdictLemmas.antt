@@ -106,7 +106,7 @@ read_spells bytes y e = read_is_text (tokens bytes) y (outcome-read (Some start)
 pub spelled_is_read : (bytes : List ℕ) (y : Spec) → SpecText bytes y → comes_of bytes ≡ Read y
 spelled_is_read bytes y k = read-outcome (Some start) 0 (placed_tokens bytes) y (text_taken (tokens bytes) y k)
 
--- where it stops is the place of the fault
+-- the place of the fault is where it stops
 pub stops_at_place : (bytes : List ℕ) (at : ℕ) → comes_of bytes ≡ Fault at → IsFaultPlace bytes at
 stops_at_place bytes at e =
     let r = outcome-fault start 0 (placed_tokens bytes) at e in

@@ -1,4 +1,4 @@
--- What may stand at the place of a fault.
+-- The kinds of tokens that are possible at the offset of a syntax error.
 use Rattle.std.specs.Prelude.{◌≡◌, ◌↔◌, ℕ, Bool, List, [], ◌∷◌, ◌++◌, Contains, Option, Some, None}
 use Rattle.std.specs.Prelude.{is_some}
 use Rattle.rec_syntax.specs.Tokens as tokens
@@ -16,7 +16,7 @@ use Rattle.rec_syntax.specs.declared.token_kind.TokenKind.TheVariants.{Equal, Un
 use Rattle.rec_syntax.specs.declared.reader.Due.{Due}
 use Rattle.rec_syntax.specs.declared.reader.Reader.{Reader}
 
--- the tokens of a kind
+-- IsOf kind t: `t` is a token of this kind
 abbrev pub IsOf : TokenKind → Token → Type 0
 IsOf PlainWord t = (w : Word) × (t ≡ tokens.Plain w)
 IsOf RecSpec t = t ≡ tokens.RecSpec
@@ -33,22 +33,22 @@ IsOf Equal t = t ≡ tokens.Equal
 IsOf Unequal t = t ≡ tokens.Unequal
 IsOf End t = t ≡ tokens.End
 
--- some text of the grammar has a token of this kind behind these tokens
+-- MayStand before k: some text of the grammar has a token of kind `k` after the tokens `before`
 abbrev pub MayStand : List Token → TokenKind → Type 0
 MayStand before k = (t : Token) × IsOf k t × CanGoOn (before ++ t ∷ [])
 
--- these are exactly the kinds of the tokens that some text has at the fault's place, behind the
--- tokens before it
+-- AreExpected bytes ks: `ks` has exactly the kinds of tokens that some text of the grammar has at
+-- the error offset, after the tokens before it
 abbrev pub AreExpected : List ℕ → List TokenKind → Type 0
 AreExpected bytes ks = (at : ℕ) (fault : IsFaultPlace bytes at) (k : TokenKind)
     → Contains ks k ↔ MayStand (bare fault.before) k
 
--- a token's kind; a bad token has none
+-- IsKindOf kind t: `kind` is the kind of token `t`; a bad token has none
 abbrev pub IsKindOf : Option TokenKind → LexemeKind → Type 0
 IsKindOf None t = t ≡ LexemeKind.Bad
 IsKindOf (Some k) t = (bytes : List ℕ) → IsOf k (token_of bytes t)
 
--- a token of a kind
+-- some token of each kind
 abbrev pub sample : TokenKind → Token
 sample PlainWord = tokens.Plain (record { at = 0; bytes = [] })
 sample RecSpec = tokens.RecSpec
@@ -65,11 +65,11 @@ sample Equal = tokens.Equal
 sample Unequal = tokens.Unequal
 sample End = tokens.End
 
--- whether the machine takes a token of this kind
+-- is_taken step k: the machine takes a token of kind `k`
 abbrev pub is_taken : (Token → Option State) → TokenKind → Bool
 is_taken step k = is_some (step (sample k))
 
--- the reader's state is the one behind the tokens before the fault
+-- IsAtFault bytes d r: the state of the reader is the one after the tokens before the error
 abbrev pub IsAtFault : List ℕ → Due → Reader → Type 0
 IsAtFault bytes d r = (at : ℕ) (fault : IsFaultPlace bytes at)
     → run (Some start) (bare fault.before) ≡ Some (state_of bytes d r)

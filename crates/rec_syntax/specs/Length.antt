@@ -1,6 +1,6 @@
--- How long the text of a specification may be.
+-- The largest length of a specification's text.
 use Rattle.std.specs.Prelude.{ℕ}
 
--- the most bytes
+-- the number of bytes
 abbrev pub longest : ℕ
 longest = 16777216

@@ -1,4 +1,4 @@
-//! The parts of a specification, their words as spans of its text.
+//! The parts of a specification. Their names are spans of its text.
 
 ghost use Rattle.std.specs.Prelude.{◌≡◌, []};
 
@@ -7,24 +7,24 @@ use smallvec::SmallVec;
 use std::alloc::Global;
 use std::default::MadeWith;
 
-/// A list of words, of which there are mostly few.
+/// A list of names. Most have few, so up to four are stored without an allocation.
 pub type Words = SmallVec<Span, 4>;
 
-/// A word of a term, with the number of its arguments.
+/// One item of a term in postfix form: a name with the number of its arguments.
 #[derive(Clone, Copy, Drop)]
 pub struct Node {
     pub word: Span,
     pub count: usize,
 }
 
-/// A term: its nodes, each behind those of its arguments.
+/// A term in postfix form: each node comes after the nodes of its arguments.
 #[derive(Drop)]
 pub struct Term {
     pub nodes: Vec<Node>,
 }
 
 impl Term {
-    /// The nodes, each behind those of its arguments.
+    /// Returns the nodes. Each comes after those of its arguments; the last one is the root.
     pub fn nodes(&self) -> &[Node]
         ensures { result.now ≡ self.now.nodes.items }
     {
@@ -32,7 +32,7 @@ impl Term {
     }
 }
 
-/// Two terms, whose values are to be equal, or to differ.
+/// A condition of a rule: two terms whose normal forms have to be equal (`equal`), or to differ.
 #[derive(Drop)]
 pub struct Condition {
     pub left: Term,
@@ -40,7 +40,7 @@ pub struct Condition {
     pub equal: bool,
 }
 
-// What stands in the unused place of a short list: two terms without nodes.
+// The value of the unused slot of a short list of conditions: two terms without nodes.
 impl MadeWith<Global> for Condition {
     ghost is_made_with = { λ c. (c.left.nodes.items ≡ []) × (c.right.nodes.items ≡ []) };
 
@@ -57,16 +57,17 @@ impl MadeWith<Global> for Condition {
     }
 }
 
-/// A rewrite rule.
+/// A rewrite rule: left-hand side, right-hand side and conditions.
 #[derive(Drop)]
 pub struct Rule {
     pub left: Term,
     pub right: Term,
-    /// Mostly none, or one.
+    /// The conditions in the order of the text. A list of up to one allocates nothing for itself; a
+    /// rule without conditions still has room for one.
     pub conditions: SmallVec<Condition, 1>,
 }
 
-/// A symbol with the sorts of its arguments and its own.
+/// The declaration of a symbol: its name, the sorts of its arguments, and its result sort.
 #[derive(Drop)]
 pub struct Declaration {
     pub name: Span,
@@ -74,7 +75,7 @@ pub struct Declaration {
     pub sort: Span,
 }
 
-/// Variables that are declared together, with their sort.
+/// A group of variables that are declared together, with their sort.
 #[derive(Drop)]
 pub struct Group {
     pub first: Span,
@@ -82,7 +83,7 @@ pub struct Group {
     pub sort: Span,
 }
 
-/// The name of a specification, and its sections in their order.
+/// The name of a specification, and the contents of its sections in the order of the grammar.
 #[derive(Drop)]
 pub struct Sections {
     pub name: Span,
@@ -95,7 +96,7 @@ pub struct Sections {
 }
 
 impl Sections {
-    /// No name, and sections with nothing in them.
+    /// Returns an empty name and empty sections.
     pub(crate) fn new(alloc: Global) -> Self
         ensures name { result.name ≡ record { from = 0; to = 0 } }
         ensures sorts { result.sorts.items ≡ [] }

@@ -1,4 +1,5 @@
-//! The reader: what is due next, and what is read so far.
+//! The reader: a state machine that takes one token at a time. `Due` says which tokens it can take
+//! next; the sections that were read so far are in `Reader`.
 
 ghost use Rattle.std.specs.Prelude.{◌≡◌, ◌<◌, ◌≤◌, ◌↔◌, [], length, IfOk, IfErr, IsErrOf};
 ghost use Rattle.rec_syntax.specs.Grammar.{SpecText};
@@ -22,14 +23,14 @@ use smallvec::SmallVec;
 use std::alloc::{AllocError, AllocFailed, Global};
 use std::mem;
 
-/// The symbols that a section declares.
+/// The kind of symbols that the open section declares.
 #[derive(Clone, Copy, Drop)]
 pub enum Symbols {
     Constructors,
     Operators,
 }
 
-/// Where the term that is read stands, with what was read before it.
+/// The role of the term that is being read, with the parts of its rule that are read already.
 #[derive(Drop)]
 pub enum Role {
     Left,
@@ -39,7 +40,7 @@ pub enum Role {
     InEval,
 }
 
-/// What is due next.
+/// The control state of the reader: it determines the tokens that can come next.
 #[derive(Clone, Copy, Drop)]
 pub enum Due {
     Start,
@@ -58,7 +59,7 @@ pub enum Due {
     Done,
 }
 
-/// Why a step is not made.
+/// Why a token was not taken: the grammar has no such token here, or an allocation failed.
 #[derive(Drop)]
 pub enum Stop {
     Refused,
@@ -85,29 +86,31 @@ impl From<AllocError> for Stop {
     }
 }
 
-/// An open application, and how many arguments are read.
+/// An application whose closing parenthesis was not read yet, and the number of its arguments that
+/// were read.
 #[derive(Drop)]
 pub struct Call {
     word: Span,
     count: usize,
 }
 
-/// The text, and what is read of it.
+/// The text, and everything that was read of it.
 #[derive(Drop)]
 pub struct Reader {
     alloc: Global,
     source: Vec<u8>,
     sections: Sections,
-    /// the words of the declaration or the group that is read
+    /// the names of the declaration or group that is being read
     words: Words,
     role: Role,
-    /// the open applications, and the nodes of the term that is read
+    /// the open applications, and the nodes of the term that is being read; both are reused for
+    /// each term
     calls: Vec<Call>,
     nodes: Vec<Node>,
 }
 
 impl Reader {
-    /// A reader before the first token.
+    /// Returns a reader before the first token.
     fn new(alloc: Global, source: Vec<u8>) -> Self
         ensures source { result.source ≡ source }
         ensures start { state_of source.items Due.Start result ≡ start }
@@ -124,7 +127,7 @@ impl Reader {
         }
     }
 
-    /// The next token.
+    /// Takes the next token and returns the next control state.
     fn step(&mut self, due: Due, token: LexemeKind) -> Result<Due, Stop>
         requires state { IsAt due self.old }
         requires token { IsToken self.old.source.items token }
@@ -155,7 +158,7 @@ impl Reader {
         }
     }
 
-    /// The specification whose text and sections these are, which are taken away.
+    /// Moves the text and the sections out of the reader, as a specification.
     fn take_syntax(&mut self) -> Syntax
         requires short { length self.old.source.items ≤ longest }
         requires sections { AreSections self.old.source.items self.old.sections }
@@ -167,7 +170,7 @@ impl Reader {
         Syntax::new(source, sections)
     }
 
-    /// The specification that the whole text spells, from before its first token on.
+    /// Reads the whole text from its first token on. Returns the specification that it spells.
     fn read_text(&mut self) -> Result<Syntax, SyntaxFault>
         requires short { length self.old.source.items ≤ longest }
         requires start { state_of self.old.source.items Due.Start self.old ≡ start }
@@ -198,7 +201,7 @@ impl Reader {
     }
 }
 
-/// The specification that the text spells.
+/// Returns the specification that the text spells. The text is not too long.
 fn read(alloc: Global, source: Vec<u8>) -> Result<Syntax, SyntaxFault>
     requires { length source.items ≤ longest }
     ensures source { IfOk result (λ s. s.source ≡ source.items) }
@@ -209,7 +212,10 @@ fn read(alloc: Global, source: Vec<u8>) -> Result<Syntax, SyntaxFault>
     Reader::new(alloc, source).read_text()
 }
 
-/// The specification that a text spells, which keeps the text: no byte of it is copied.
+/// Returns the specification that the text spells. The result keeps the text, and no byte of it is
+/// copied. Returns `Long` if the text has more than [`LONGEST`] bytes, `Grammar` with the offset of
+/// the error if it is outside the grammar, `Memory` if an allocation failed. Linear in the length
+/// of the text.
 pub fn read_owned(alloc: Global, text: Vec<u8>) -> Result<Syntax, SyntaxFault>
     ensures source { IfOk result (λ s. s.source ≡ text.items) }
     ensures spelled { IfOk result (λ s. SpecText text.items s.spec) }
@@ -223,8 +229,10 @@ pub fn read_owned(alloc: Global, text: Vec<u8>) -> Result<Syntax, SyntaxFault>
     read(alloc, text)
 }
 
-/// The specification that the bytes spell. A text that is too long is refused before memory is
-/// asked for.
+/// Returns the specification that the bytes spell, which are copied. Returns `Long` if there are
+/// more than [`LONGEST`] bytes, before memory is requested; `Grammar` with the offset of the error
+/// if they are outside the grammar; `Memory` if an allocation failed. Linear in the length of the
+/// text.
 pub fn read_spec(alloc: Global, bytes: &[u8]) -> Result<Syntax, SyntaxFault>
     ensures source { IfOk result (λ s. s.source ≡ bytes.now) }
     ensures spelled { IfOk result (λ s. SpecText bytes.now s.spec) }

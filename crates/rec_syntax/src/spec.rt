@@ -1,4 +1,4 @@
-//! A specification that was read, with its text.
+//! A specification after reading, with its text.
 
 ghost use Rattle.std.specs.Prelude.{◌≡◌, ◌≤◌, length, map, All};
 ghost use Rattle.rec_syntax.specs.Length.{longest};
@@ -10,10 +10,11 @@ use crate::lexer::Span;
 use crate::parts::{Declaration, Group, Rule, Sections, Term};
 use std::marker::Model;
 
-/// How many bytes a text has at most.
+/// The largest length of a text, in bytes: 16 MiB.
 pub const LONGEST: usize = 16_777_216;
 
-/// A specification and the text that spells it: contracts see the text and the syntax tree.
+/// A specification together with the text that spells it. Contracts see it as the bytes of the text
+/// and the syntax tree (`Sourced`).
 #[derive(Drop)]
 pub struct Syntax {
     source: Vec<u8>,
@@ -36,7 +37,7 @@ impl Model for Syntax {
 }
 
 impl Syntax {
-    /// The specification with these sections of its text.
+    /// Makes the specification with these sections of its text.
     pub(crate) fn new(source: Vec<u8>, sections: Sections) -> Self
         requires short { length source.items ≤ longest }
         requires sections { AreSections source.items sections }
@@ -46,7 +47,7 @@ impl Syntax {
         Syntax { source, sections }
     }
 
-    /// The text.
+    /// Returns the text.
     pub fn source(&self) -> &[u8]
         ensures text { result.now ≡ self.now.source }
         ensures short { length result.now ≤ longest }
@@ -54,7 +55,8 @@ impl Syntax {
         self.source.as_slice()
     }
 
-    /// The bytes of a word.
+    /// Returns the bytes of a name. The span has to lie within the text, as each span of the parts
+    /// does.
     pub fn word(&self, span: Span) -> &[u8]
         requires { Within self.now.source span }
         ensures { result.now ≡ (word_of self.now.source span).bytes }
@@ -62,7 +64,7 @@ impl Syntax {
         &self.source[span.from..span.to]
     }
 
-    /// The specification's name.
+    /// Returns the name of the specification.
     pub fn name(&self) -> Span
         ensures name { word_of self.now.source result ≡ self.now.spec.name }
         ensures within { Within self.now.source result }
@@ -70,7 +72,7 @@ impl Syntax {
         self.sections.name
     }
 
-    /// The sorts.
+    /// Returns the declared sorts in the order of the text.
     pub fn sorts(&self) -> &[Span]
         ensures sorts { map (word_of self.now.source) result.now ≡ self.now.spec.sorts }
         ensures within { All (Within self.now.source) result.now }
@@ -78,7 +80,7 @@ impl Syntax {
         &self.sections.sorts
     }
 
-    /// The constructors.
+    /// Returns the declarations of constructors in the order of the text.
     pub fn constructors(&self) -> &[Declaration]
         ensures constructors { map (declaration_of self.now.source)
             result.now ≡ self.now.spec.constructors }
@@ -87,7 +89,7 @@ impl Syntax {
         &self.sections.constructors
     }
 
-    /// The operators.
+    /// Returns the declarations of operators in the order of the text.
     pub fn operators(&self) -> &[Declaration]
         ensures operators { map (declaration_of self.now.source)
             result.now ≡ self.now.spec.operators }
@@ -96,7 +98,7 @@ impl Syntax {
         &self.sections.operators
     }
 
-    /// The variables, as they are declared together.
+    /// Returns the groups of variables in the order of the text.
     pub fn groups(&self) -> &[Group]
         ensures groups { map (group_of self.now.source) result.now ≡ self.now.spec.variables }
         ensures sound { All (IsGroup self.now.source) result.now }
@@ -104,7 +106,7 @@ impl Syntax {
         &self.sections.groups
     }
 
-    /// The rules.
+    /// Returns the rules in the order of the text.
     pub fn rules(&self) -> &[Rule]
         ensures rules { map (rule_of self.now.source) result.now ≡ self.now.spec.rules }
         ensures sound { All (IsRule self.now.source) result.now }
@@ -112,7 +114,7 @@ impl Syntax {
         &self.sections.rules
     }
 
-    /// The terms to evaluate.
+    /// Returns the EVAL terms in the order of the text.
     pub fn terms(&self) -> &[Term]
         ensures terms { map (term_of self.now.source) result.now ≡ self.now.spec.terms }
         ensures sound { All (IsTerm self.now.source) result.now }

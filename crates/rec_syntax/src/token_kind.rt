@@ -1,4 +1,4 @@
-//! The kinds of tokens that the grammar has.
+//! The kinds of tokens of the grammar, as error messages name them.
 
 ghost use Rattle.std.specs.Prelude.{List};
 ghost use Rattle.rec_syntax.specs.Expected.{IsKindOf};
@@ -6,14 +6,14 @@ ghost use Rattle.rec_syntax.specs.Lexemes.{token_of};
 
 use crate::lexer::{LexemeKind, Part};
 
-/// A kind of tokens.
+/// A kind of token.
 #[derive(Clone, Copy, PartialEq, Eq, Debug, Drop)]
 pub enum TokenKind {
-    /// A word that is not reserved.
+    /// An identifier: a word that is not reserved.
     PlainWord,
     /// `REC-SPEC`.
     RecSpec,
-    /// A section's word.
+    /// The reserved word with which a section begins.
     Section(Part),
     /// `END-SPEC`.
     EndSpec,
@@ -40,7 +40,7 @@ pub enum TokenKind {
 }
 
 impl TokenKind {
-    /// The kinds, each once.
+    /// All kinds, each once.
     pub const ALL: [TokenKind; 19] = [
         TokenKind::PlainWord,
         TokenKind::RecSpec,
@@ -63,7 +63,7 @@ impl TokenKind {
         TokenKind::End,
     ];
 
-    /// The kind of a token; a bad one has none.
+    /// Returns the kind of a token, or `None` for a bad token.
     pub(crate) fn of(token: LexemeKind) -> Option<TokenKind>
         ensures { IsKindOf result token }
     {

@@ -1,4 +1,4 @@
--- What a tracer stands for, and what its turns come to.
+-- The meaning of a tracer, and the results of its steps.
 use Rattle.std.specs.Prelude.{ℕ, suc, ◌≡◌, Bool, true, false, List, [], ◌∷◌, Option, Some}
 use Rattle.std.specs.Prelude.{None, drop, get_or, length, slice_get}
 use Rattle.rx_term.specs.Tree.{Tree, none, list_of}
@@ -22,33 +22,36 @@ use Rattle.rec_trace.specs.declared.tracer.Tracer.{Tracer}
 use Rattle.rec_trace.specs.declared.tracer.Turn.{Turn}
 use Rattle.rec_trace.specs.declared.tracer.Turn.TheVariants as turn
 
--- the moves of a tracer, and its stack
+-- moves_at y w t: the moves of a tracer
 abbrev pub moves_at : Spec → Store → Tracer → List Move
 moves_at y w t = moves_in y w t.row
 
+-- stack_at w t: the stack of a tracer, the top first
 abbrev pub stack_at : Store → Tracer → List Tree
 stack_at w t = stack_in w t.row
 
--- the specification keeps its rules, the steps can be made, and values are saved in the list
+-- IsInOrder y w t: the specification violates no rule, the operations can be executed, and values
+-- are saved in the list
 pub record IsInOrder (y : Spec) (w : Store) (t : Tracer) : Type 0 where
   pub good : fault y ≡ None
   pub row : IsRow y w t.row
   pub saved : IsSaved w t.row t.saved
 
--- and in the end they leave one value
+-- Stands y w t: a tracer is in order, and its operations leave one value in the end
 pub record Stands (y : Spec) (w : Store) (t : Tracer) : Type 0 where
   pub order : IsInOrder y w t
   pub fits : Fits (moves_at y w t) (length (stack_at w t)) 1
 
--- the trace that is left
+-- rest_of y w t: the rest of the trace
 abbrev pub rest_of : Spec → Store → Tracer → Traced Tree
 rest_of y w t = ahead y t.left (moves_at y w t) (stack_at w t)
 
--- the whole term
+-- whole_of y w t: the whole term
 abbrev pub whole_of : Spec → Store → Tracer → Tree
 whole_of y w t = written (moves_at y w t) (stack_at w t)
 
--- a rule fired: the firing is the next one of the trace, and the rest of the trace is left
+-- HasFired ..: a rule was applied: the rewrite is the next one of the trace, and the rest follows
+-- it
 pub record HasFired (y : Spec) (w w' : Store) (old new : Tracer) (rule : ℕ)
     (redex contractum : Reference) : Type 0 where
   pub firing : Firing
@@ -60,7 +63,7 @@ pub record HasFired (y : Spec) (w w' : Store) (old new : Tracer) (rule : ℕ)
   pub before_is : firing.before ≡ whole_of y w old
   pub after_is : firing.after ≡ whole_of y w' new
 
--- the rule of a number makes one tree of another
+-- Rewrites y i u v: rule number `i` rewrites `u` to `v`
 pub record Rewrites (y : Spec) (i : ℕ) (u v : Tree) : Type 0 where
   pub rule : Rule
   pub values : Substitution
@@ -68,7 +71,7 @@ pub record Rewrites (y : Spec) (i : ℕ) (u v : Tree) : Type 0 where
   pub binds_is : binds y rule.left u ≡ Some values
   pub result : v ≡ instance values rule.right
 
--- the same as that a rule fired, but for the contractum, which is not written down
+-- HasFiredAt ..: a rule was applied to the redex, and its contractum is not built yet
 pub record HasFiredAt (y : Spec) (w w' : Store) (old new : Tracer) (rule : ℕ) (redex : Reference)
     : Type 0 where
   pub firing : Firing
@@ -80,15 +83,14 @@ pub record HasFiredAt (y : Spec) (w w' : Store) (old new : Tracer) (rule : ℕ) 
   pub before_is : firing.before ≡ whole_of y w old
   pub after_is : firing.after ≡ whole_of y w' new
 
--- what comes next in a trace
+-- IsEvent ..: the event is the next one of the trace
 abbrev pub IsEvent : Spec → Store → Store → Tracer → Tracer → Event → Type 0
 IsEvent y w w' old new (event.Fired rule redex) = HasFiredAt y w w' old new rule redex
 IsEvent y w w' old new (event.Value t) = (v : Tree) × (tree_at w' t ≡ Some v)
     × (rest_of y w old ≡ quiet (Done v new.left))
 IsEvent y w w' old new event.Limit = rest_of y w old ≡ quiet Over
 
--- what a step of a trace answers: the next firing, or that there is none and what the trace comes
--- to
+-- IsTurn ..: the result of a step of a trace: the next rewrite or, if there is none, the outcome
 abbrev pub IsTurn : Spec → Store → Store → Tracer → Tracer → Turn → Type 0
 IsTurn y w w' old new (turn.Fired rule redex contractum) = HasFired y w w' old new rule redex
     contractum
@@ -96,13 +98,13 @@ IsTurn y w w' old new (turn.Value t) = (v : Tree) × (tree_at w' t ≡ Some v)
     × (rest_of y w old ≡ quiet (Done v new.left))
 IsTurn y w w' old new turn.Limit = rest_of y w old ≡ quiet Over
 
--- behind the limit nothing is left to ask for
+-- IsLimit turn: the step limit was too low, so the trace cannot continue
 abbrev pub IsLimit : Turn → Type 0
 IsLimit (turn.Fired rule redex contractum) = ⊥
 IsLimit (turn.Value t) = ⊥
 IsLimit turn.Limit = Unit {0}
 
--- a row of moves over values, one after the other: the value on top in the end
+-- result c n ms st: the outcome of moves over values, one after another: the last value on top
 abbrev pub result : Caller → ℕ → List Move → List Tree → Outcome Tree
 result c n [] [] = Over
 result c n [] (v ∷ st) = Done v n
@@ -110,7 +112,7 @@ result c n (Give v ∷ ms) st = result c n ms (v ∷ st)
 result c n (Invoke name k ∷ ms) st = c n (application name (taken k st none)) then λ v left. result
     c left ms (v ∷ drop k st)
 
--- the same state, with a value more on the stack
+-- Adds ..: the state is unchanged, with one more value on the stack
 pub record Adds (y : Spec) (w w' : Store) (old new : Tracer) (v : Tree) : Type 0 where
   pub order : IsInOrder y w' new
   pub moves : moves_at y w' new ≡ moves_at y w old
@@ -118,7 +120,7 @@ pub record Adds (y : Spec) (w w' : Store) (old new : Tracer) (v : Tree) : Type 0
   pub steps : new.row.steps.items ≡ old.row.steps.items
   pub long : length new.row.values.items ≡ suc (length old.row.values.items)
 
--- the same state
+-- IsSame ..: the state is unchanged
 pub record IsSame (y : Spec) (w w' : Store) (old new : Tracer) : Type 0 where
   pub order : IsInOrder y w' new
   pub moves : moves_at y w' new ≡ moves_at y w old
@@ -126,22 +128,22 @@ pub record IsSame (y : Spec) (w w' : Store) (old new : Tracer) : Type 0 where
   pub steps : new.row.steps.items ≡ old.row.steps.items
   pub long : length new.row.values.items ≡ length old.row.values.items
 
--- an outcome: its value comes on top; or it is over the limit
+-- Gives ..: the outcome: its value was pushed, or the step limit is too low
 abbrev pub Gives : Spec → Store → Store → Tracer → Tracer → Outcome Tree → Bool → Type 0
 Gives y w w' old new o true = (v : Tree) × (o ≡ Done v new.left) × Adds y w w' old new v
 Gives y w w' old new o false = o ≡ Over
 
--- the answer of conditions; none over the limit
+-- AreAnswered ..: the outcome of conditions: whether they hold; `None` if the step limit is too low
 abbrev pub AreAnswered : Spec → Store → Store → Tracer → Tracer → Outcome Bool → Option Bool
     → Type 0
 AreAnswered y w w' old new o (Some answer) = (o ≡ Done answer new.left) × IsSame y w w' old new
 AreAnswered y w w' old new o None = o ≡ Over
 
--- the first value on a stack
+-- on_top st: the top of a stack
 abbrev pub on_top : List Tree → Tree
 on_top st = get_or st 0 (list_of none)
 
--- what is found for the tree on top
+-- IsFound ..: the result of a search for a rule that applies to the tree on top
 abbrev pub IsFound : Spec → Store → Store → Tracer → Tracer → Outcome (Option Match) → Found
     → Type 0
 IsFound y w w' old new o (found.Rule i) = (m : Match) × (o ≡ Done (Some m) new.left)

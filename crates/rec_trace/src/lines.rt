@@ -1,29 +1,30 @@
 //! The lines of a trace.
 
-ghost use Rattle.std.specs.Prelude.{◌≡◌, ◌≤◌, ◌<◌, ◌^◌, ◌++◌, ℕ, suc, length, take, codes, decimal};
-ghost use Rattle.std.specs.Prelude.{Some, IsSome, IfOk, OnOk, OnErr};
-ghost use Rattle.std.specs.Io.KnownBytes.{Appends};
+ghost use Rattle.std.specs.Prelude.{◌≡◌, ◌≤◌, ◌<◌, ◌^◌, ◌++◌, ◌-◌, ℕ, suc, length, take, codes};
+ghost use Rattle.std.specs.Prelude.{decimal};
+ghost use Rattle.std.specs.Prelude.{Some, IsSome, IfOk};
 ghost use Rattle.rx_term.specs.Tree.{Tree};
 ghost use Rattle.rx_term.specs.Store.{tree_at};
 ghost use Rattle.rx_text.specs.Canon.{canon};
-ghost use Rattle.rx_text.specs.Written.{AppendsFront};
 ghost use Rattle.rec_trace.specs.Lines.{ends_in, behind_end, cut, place_text, spent_text};
 ghost use Rattle.rec_trace.specs.Lines.{firing_text, whole_text};
 
+use crate::tracer::Rewrite;
 use itoa::Buffer;
 use rx_term::{Term, TermBank};
-use rx_text::{WriteFault, put, write};
-use std::alloc::Global;
-use std::io::Write;
+use rx_text::{WriteFault, text_front, write, write_within};
+use std::alloc::{AllocError, Global};
 
-/// A line and a column of a text, each from 1.
+/// A location in a text: a line and a column, each from 1.
 #[derive(Clone, Copy, Drop)]
 pub struct Spot {
+    /// The line, from 1.
     pub line: u64,
+    /// The column in bytes, from 1.
     pub column: u64,
 }
 
-/// The line and the column of a byte of a text.
+/// Returns the location of the byte at offset `at`.
 pub fn spot_of(source: &[u8], at: usize) -> Spot
     requires within { at ≤ length source.now }
     requires short { length source.now < 2 ^ 63 }
@@ -44,15 +45,27 @@ pub fn spot_of(source: &[u8], at: usize) -> Spot
     Spot { line, column }
 }
 
-/// How the lines of a trace look: whether the steps spent so far stand behind them, and how many
-/// bytes a term has at most.
+/// The form of the lines of a trace.
 #[derive(Clone, Copy, Drop)]
 pub struct Look {
+    /// Whether the number of steps spent so far follows each line.
     pub counted: bool,
+    /// The largest length of a term in bytes; a longer term ends in three dots.
     pub width: Option<usize>,
 }
 
-/// More bytes come behind a line.
+/// The parts of a line before and after its terms, and its form.
+#[derive(Clone, Copy, Drop)]
+pub struct Margins {
+    /// The location of the rule.
+    pub spot: Spot,
+    /// The number of steps spent so far.
+    pub spent: u64,
+    /// The form of the line.
+    pub look: Look,
+}
+
+/// Appends bytes to a line.
 fn add(line: &mut Vec<u8>, bytes: &[u8]) -> Result<(), WriteFault>
     ensures { IfOk result (λ u. line.new.items ≡ line.old.items ++ bytes.now) }
 {
@@ -62,14 +75,14 @@ fn add(line: &mut Vec<u8>, bytes: &[u8]) -> Result<(), WriteFault>
     }
 }
 
-/// A number comes behind a line.
+/// Appends a decimal number to a line.
 fn add_number(line: &mut Vec<u8>, n: u64) -> Result<(), WriteFault>
     ensures { IfOk result (λ u. line.new.items ≡ line.old.items ++ decimal n) }
 {
     add(line, Buffer::new().format(n).as_bytes())
 }
 
-/// A line and a column come behind a line, with a `:` behind each.
+/// Appends a location to a line: the line and the column, each followed by a `:`, and a space.
 fn add_spot(line: &mut Vec<u8>, spot: Spot) -> Result<(), WriteFault>
     ensures { IfOk result
         (λ u. line.new.items ≡ line.old.items ++ place_text spot.line spot.column) }
@@ -80,7 +93,7 @@ fn add_spot(line: &mut Vec<u8>, spot: Spot) -> Result<(), WriteFault>
     add(line, b": ")
 }
 
-/// The steps spent come behind a line, where they are asked for.
+/// Appends a tab and the number of steps spent to a line, if `counted`.
 fn add_spent(line: &mut Vec<u8>, counted: bool, spent: u64) -> Result<(), WriteFault>
     ensures { IfOk result (λ u. line.new.items ≡ line.old.items ++ spent_text counted spent) }
 {
@@ -91,7 +104,28 @@ fn add_spent(line: &mut Vec<u8>, counted: bool, spent: u64) -> Result<(), WriteF
     add_number(line, spent)
 }
 
-/// The text of a term, cut to a width where there is one.
+/// Returns the first `width - 3` bytes of the text of a term, followed by three dots.
+fn shortened<B: TermBank>(
+    alloc: Global,
+    bank: &B,
+    t: Term,
+    width: usize,
+) -> Result<Vec<u8>, WriteFault>
+    requires { IsSome (tree_at (B.store bank.now) t) }
+    ensures { IfOk result (λ text. (u : Tree) → tree_at (B.store bank.now) t ≡ Some u
+        → text.items ≡ take (width - 3) (canon u) ++ codes "...") }
+{
+    match text_front(alloc, bank, t, width.saturating_sub(3)) {
+        Ok(mut text) => {
+            add(&mut text, b"...")?;
+            Ok(text)
+        }
+        Err(AllocError) => Err(WriteFault::Memory),
+    }
+}
+
+/// Returns the text of a term, cut to `width` bytes if a width is given. No more than that is
+/// printed.
 fn cut_text<B: TermBank>(
     alloc: Global,
     bank: &B,
@@ -102,20 +136,19 @@ fn cut_text<B: TermBank>(
     ensures { IfOk result (λ text. (u : Tree) → tree_at (B.store bank.now) t ≡ Some u
         → text.items ≡ cut width (canon u)) }
 {
-    let mut text = Vec::new(alloc);
-    write(alloc, bank, t, &mut text)?;
     let Some(width) = width else {
+        let mut text = Vec::new(alloc);
+        write(alloc, bank, t, &mut text)?;
         return Ok(text);
     };
-    if text.len() <= width {
-        return Ok(text);
+    match write_within(alloc, bank, t, width) {
+        Ok(Some(text)) => Ok(text),
+        Ok(None) => shortened(alloc, bank, t, width),
+        Err(AllocError) => Err(WriteFault::Memory),
     }
-    text.truncate(width.saturating_sub(3));
-    add(&mut text, b"...")?;
-    Ok(text)
 }
 
-/// The text of a term comes behind a line, cut to a width where there is one.
+/// Appends the text of a term to a line, cut to `width` bytes if a width is given.
 fn add_term<B: TermBank>(
     alloc: Global,
     bank: &B,
@@ -131,95 +164,45 @@ fn add_term<B: TermBank>(
     add(line, &text)
 }
 
-/// Writes the line of a rule that fires: where it begins, the redex, and what it becomes.
-pub fn write_firing<B: TermBank, W: Write>(
-    alloc: Global,
-    bank: &B,
-    spot: Spot,
-    redex: Term,
-    contractum: Term,
-    spent: u64,
-    look: Look,
-    out: &mut W,
-) -> Result<(), WriteFault>
-    requires redex { IsSome (tree_at (B.store bank.now) redex) }
-    requires contractum { IsSome (tree_at (B.store bank.now) contractum) }
-    ensures written { OnOk result ((u v : Tree) → tree_at (B.store bank.now) redex ≡ Some u
-        → tree_at (B.store bank.now) contractum ≡ Some v
-        → Appends (W.contents out.old) (W.contents out.new)
-        (firing_text spot.line spot.column look.counted look.width spent u v)) }
-    ensures front { OnErr result ((u v : Tree) → tree_at (B.store bank.now) redex ≡ Some u
-        → tree_at (B.store bank.now) contractum ≡ Some v
-        → AppendsFront (firing_text spot.line spot.column look.counted look.width spent u v)
-        (W.contents out.old) (W.contents out.new)) }
-{
-    let line = firing_line(alloc, bank, spot, redex, contractum, spent, look)?;
-    put(out, &line)?;
-    Ok(())
-}
-
-/// The line of a rule that fires. The only fault is want of memory.
+/// Returns the line of a rewrite: location, redex, ` -> `, contractum. The only error is out of
+/// memory.
 pub fn firing_line<B: TermBank>(
     alloc: Global,
     bank: &B,
-    spot: Spot,
-    redex: Term,
-    contractum: Term,
-    spent: u64,
-    look: Look,
+    rewrite: Rewrite,
+    margins: Margins,
 ) -> Result<Vec<u8>, WriteFault>
-    requires redex { IsSome (tree_at (B.store bank.now) redex) }
-    requires contractum { IsSome (tree_at (B.store bank.now) contractum) }
-    ensures { IfOk result (λ line. (u v : Tree) → tree_at (B.store bank.now) redex ≡ Some u
-        → tree_at (B.store bank.now) contractum ≡ Some v
-        → line.items ≡ firing_text spot.line spot.column look.counted look.width spent u v) }
+    requires redex { IsSome (tree_at (B.store bank.now) rewrite.redex) }
+    requires contractum { IsSome (tree_at (B.store bank.now) rewrite.contractum) }
+    ensures { IfOk result (λ line. (u v : Tree) → tree_at (B.store bank.now) rewrite.redex ≡ Some u
+        → tree_at (B.store bank.now) rewrite.contractum ≡ Some v
+        → line.items ≡ firing_text margins.spot.line margins.spot.column margins.look.counted
+        margins.look.width margins.spent u v) }
 {
+    let Margins { spot, spent, look } = margins;
     let mut line = Vec::new(alloc);
     add_spot(&mut line, spot)?;
-    add_term(alloc, bank, redex, look.width, &mut line)?;
+    add_term(alloc, bank, rewrite.redex, look.width, &mut line)?;
     add(&mut line, b" -> ")?;
-    add_term(alloc, bank, contractum, look.width, &mut line)?;
+    add_term(alloc, bank, rewrite.contractum, look.width, &mut line)?;
     add_spent(&mut line, look.counted, spent)?;
     add(&mut line, b"\n")?;
     Ok(line)
 }
 
-/// Writes the line of a whole term: where the rule begins that fired, and the term.
-pub fn write_whole<B: TermBank, W: Write>(
-    alloc: Global,
-    bank: &B,
-    spot: Spot,
-    whole: Term,
-    spent: u64,
-    look: Look,
-    out: &mut W,
-) -> Result<(), WriteFault>
-    requires { IsSome (tree_at (B.store bank.now) whole) }
-    ensures written { OnOk result ((u : Tree) → tree_at (B.store bank.now) whole ≡ Some u
-        → Appends (W.contents out.old) (W.contents out.new)
-        (whole_text spot.line spot.column look.counted look.width spent u)) }
-    ensures front { OnErr result ((u : Tree) → tree_at (B.store bank.now) whole ≡ Some u
-        → AppendsFront (whole_text spot.line spot.column look.counted look.width spent u)
-        (W.contents out.old) (W.contents out.new)) }
-{
-    let line = whole_line(alloc, bank, spot, whole, spent, look)?;
-    put(out, &line)?;
-    Ok(())
-}
-
-/// The line of a whole term. The only fault is want of memory.
+/// Returns the line of a whole term: location, term. The only error is out of memory.
 pub fn whole_line<B: TermBank>(
     alloc: Global,
     bank: &B,
-    spot: Spot,
     whole: Term,
-    spent: u64,
-    look: Look,
+    margins: Margins,
 ) -> Result<Vec<u8>, WriteFault>
     requires { IsSome (tree_at (B.store bank.now) whole) }
     ensures { IfOk result (λ line. (u : Tree) → tree_at (B.store bank.now) whole ≡ Some u
-        → line.items ≡ whole_text spot.line spot.column look.counted look.width spent u) }
+        → line.items ≡ whole_text margins.spot.line margins.spot.column margins.look.counted
+        margins.look.width margins.spent u) }
 {
+    let Margins { spot, spent, look } = margins;
     let mut line = Vec::new(alloc);
     add_spot(&mut line, spot)?;
     add_term(alloc, bank, whole, look.width, &mut line)?;

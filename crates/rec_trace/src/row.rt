@@ -1,9 +1,9 @@
-//! A row of steps over values, one above the other.
+//! A row: pending operations over a stack of values.
 
 mod spreading;
 mod writing;
 
-ghost use Rattle.std.specs.Prelude.{◌≡◌, ◌≤◌, ◌<◌, ◌+◌, ◌-◌, ◌++◌, ◌∷◌, [], IfOk, OnErr, OnOk};
+ghost use Rattle.std.specs.Prelude.{◌≡◌, ◌≤◌, ◌<◌, ◌+◌, ◌-◌, ◌++◌, ◌∷◌, [], IfOk, OnErr, OnOk, IfErr};
 ghost use Rattle.std.specs.Prelude.{Some, drop, length, slice_get, suc, take};
 ghost use Rattle.rx_term.specs.Steps.{Keeps};
 ghost use Rattle.rx_term.specs.Walks.{AllHeld};
@@ -16,38 +16,42 @@ ghost use Rattle.rec_engine.specs.Lent.{IsAppliedOn};
 ghost use Rattle.rec_trace.specs.Rows.{Lowers};
 ghost use Rattle.rec_sorts.specs.Laws.{Every};
 ghost use Rattle.rec_syntax.specs.Syntax.{Spec};
+ghost use Rattle.rec_engine.specs.declared.engine.errors.EngineFault.TheVariants.{Memory};
+ghost use Rattle.rec_trace.specs.Faults.{RoomOnlyIfFull};
 
 use rec_engine::{Engine, EngineFault};
 use rec_sorts::{Letter, Meaning};
 use rx_term::{Term, TermBank};
 use std::alloc::Global;
 
-/// What comes next.
+/// An operation of a row.
 #[derive(Clone, Copy, Drop)]
 pub(crate) enum Step {
-    /// A value goes on top.
+    /// Pushes a value.
     Give(Term),
-    /// The same, and the tree at this place goes, whose parts were given until now.
+    /// Pushes a value, and removes the tree at index `at`: the operations before pushed its other
+    /// parts.
     GiveLast { value: Term, at: usize },
-    /// A symbol is called on the values on top.
+    /// Calls a symbol on the values on top.
     Invoke { symbol: u32, count: u32 },
 }
 
-/// Steps, the next one last, and values, the top last. Some trees among the values are none: their
-/// parts are given, and they go with the last of these.
+/// Operations, the next one last, and values, the top last. Some trees among the values do not
+/// count as values: operations push their parts, and the last of these operations removes the tree.
 #[derive(Drop)]
 pub(crate) struct Row {
     pub(crate) steps: Vec<Step>,
     pub(crate) values: Vec<Term>,
-    /// So many of the lowest values have stayed since this was last set.
+    /// The number of lowest values that are unchanged since this was last set.
     pub(crate) low: usize,
 }
 
-/// The steps of a ground term's letters, the next one last.
+/// Returns the operations of a ground term in postfix form, the next one last.
 pub(crate) fn ground_steps(alloc: Global, letters: &[Letter]) -> Result<Vec<Step>, EngineFault>
     requires { (y : Spec) × Every (IsApplied y) letters.now }
-    ensures { IfOk result (λ steps. (y : Spec) → Every (IsApplied y) letters.now
+    ensures row { IfOk result (λ steps. (y : Spec) → Every (IsApplied y) letters.now
         → IsGroundRow y steps.items letters.now) }
+    ensures memory { IfErr result (λ e. e ≡ Memory) }
 {
     let mut steps = Vec::new(alloc);
     let mut at = letters.len();
@@ -70,7 +74,7 @@ pub(crate) fn ground_steps(alloc: Global, letters: &[Letter]) -> Result<Vec<Step
 }
 
 impl Row {
-    /// A row of steps over no value.
+    /// Returns a row of operations without values.
     pub(crate) fn of_steps(alloc: Global, steps: Vec<Step>) -> Row
         ensures steps { result.steps ≡ steps }
         ensures values { result.values.items ≡ [] }
@@ -83,7 +87,7 @@ impl Row {
         }
     }
 
-    /// The value on top.
+    /// Returns the value on top.
     pub(crate) fn top(&self) -> Term
         requires { 0 < length self.now.values.items }
         ensures { slice_get self.now.values.items (length self.now.values.items - 1)
@@ -92,11 +96,12 @@ impl Row {
         self.values[self.values.len() - 1]
     }
 
-    /// One step more, which is the next one.
+    /// Adds an operation, which is the next one.
     pub(crate) fn push(&mut self, step: Step) -> Result<(), EngineFault>
         ensures steps { OnOk result (self.new.steps.items ≡ self.old.steps.items ++ step ∷ []) }
         ensures values { self.new.values ≡ self.old.values }
         ensures low { self.new.low ≡ self.old.low }
+        ensures memory { IfErr result (λ e. e ≡ Memory) }
     {
         match self.steps.push(step) {
             Ok(()) => Ok(()),
@@ -104,13 +109,14 @@ impl Row {
         }
     }
 
-    /// A value goes on top.
+    /// Pushes a value.
     pub(crate) fn give(&mut self, value: Term) -> Result<(), EngineFault>
         ensures values { OnOk result
             (self.new.values.items ≡ self.old.values.items ++ value ∷ []) }
         ensures same { OnErr result (self.new.values.items ≡ self.old.values.items) }
         ensures steps { self.new.steps ≡ self.old.steps }
         ensures low { self.new.low ≡ self.old.low }
+        ensures memory { IfErr result (λ e. e ≡ Memory) }
     {
         match self.values.push(value) {
             Ok(()) => Ok(()),
@@ -118,7 +124,7 @@ impl Row {
         }
     }
 
-    /// So many of the lowest values stay.
+    /// Records that values above the `count` lowest may have changed.
     fn lower(&mut self, count: usize)
         ensures low { self.new.low ≤ self.old.low }
         ensures most { self.new.low ≤ count }
@@ -130,20 +136,21 @@ impl Row {
         }
     }
 
-    /// A value goes on top, and what stands at a place goes.
+    /// Pushes a value, and removes the one at index `at`.
     pub(crate) fn give_last(&mut self, value: Term, at: usize) -> Result<(), EngineFault>
         requires { at < length self.old.values.items }
         ensures values { OnOk result (self.new.values.items ≡ take at self.old.values.items
             ++ (drop (suc at) self.old.values.items ++ value ∷ [])) }
         ensures steps { self.new.steps ≡ self.old.steps }
         ensures low { OnOk result (Lowers self.old self.new) }
+        ensures memory { IfErr result (λ e. e ≡ Memory) }
     {
         self.lower(at);
         let _source = self.values.remove(at);
         self.give(value)
     }
 
-    /// So many of the lowest values are left.
+    /// Drops all values except the `count` lowest.
     pub(crate) fn cut(&mut self, count: usize)
         requires { count ≤ length self.old.values.items }
         ensures values { self.new.values.items ≡ take count self.old.values.items }
@@ -155,7 +162,7 @@ impl Row {
         self.values.truncate(count);
     }
 
-    /// The values on top, as many as a symbol takes, become its application.
+    /// Replaces the values on top, the arguments of a symbol, by its application.
     pub(crate) fn apply<B: TermBank>(
         &mut self,
         engine: &mut Engine<B>,
@@ -174,19 +181,21 @@ impl Row {
             self.old.values.items self.new.values.items) }
         ensures steps { self.new.steps ≡ self.old.steps }
         ensures low { OnOk result (Lowers self.old self.new) }
+        ensures room { RoomOnlyIfFull (B.store engine.new.bank) engine.new.memo result }
     {
         let rest = self.values.len() - count as usize;
         self.lower(rest);
         engine.apply_on(&mut self.values, symbol, count)
     }
 
-    /// A value takes the place of those from a place on.
+    /// Replaces the values from index `at` on by a value.
     pub(crate) fn replace(&mut self, at: usize, value: Term) -> Result<(), EngineFault>
         requires { at ≤ length self.old.values.items }
         ensures values { OnOk result
             (self.new.values.items ≡ take at self.old.values.items ++ value ∷ []) }
         ensures steps { self.new.steps ≡ self.old.steps }
         ensures low { OnOk result (Lowers self.old self.new) }
+        ensures memory { IfErr result (λ e. e ≡ Memory) }
     {
         self.cut(at);
         self.give(value)

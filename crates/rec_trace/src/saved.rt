@@ -1,6 +1,6 @@
-//! The list that a tracer keeps in a bank, so that the engine's calls keep its values.
+//! The list in which a tracer protects its values, so that the engine's calls keep them.
 
-ghost use Rattle.std.specs.Prelude.{◌≡◌, ◌≤◌, ◌<◌, [], IfOk, IsSome, OnErr, OnOk, length};
+ghost use Rattle.std.specs.Prelude.{◌≡◌, ◌≤◌, ◌<◌, [], IfOk, IsSome, OnErr, OnOk, length, IfErr};
 ghost use Rattle.rx_term.specs.Store.{tree_at};
 ghost use Rattle.rx_term.specs.Walks.{AllHeld};
 ghost use Rattle.rx_term.specs.declared.Term.{Term as Reference};
@@ -9,19 +9,21 @@ ghost use Rattle.rec_trace.specs.Lists.{IsKept, IsSaved, Stays, listed};
 ghost use Rattle.rec_trace.specs.Lists.{protected_instead};
 ghost use Rattle.rec_trace.specs.Inner.Saving.{AreSaved, HasAll, KeepsLowest, KeepsSaved, Leaves};
 ghost use Rattle.rec_trace.specs.Inner.Saving.{Lengthens, Saves, Shortens};
+ghost use Rattle.rec_engine.specs.declared.engine.errors.EngineFault.TheVariants.{Memory};
+ghost use Rattle.rec_trace.specs.Faults.{RoomOnlyIfFull};
 
 use crate::row::Row;
 use rec_engine::{Engine, EngineFault};
 use rx_term::{Term, TermBank};
 
-/// A protected list of values, the lowest one last, and how many they are.
+/// A protected list of values, the lowest one last, and their number.
 #[derive(Drop)]
 pub(crate) struct Saved {
     pub(crate) list: Term,
     pub(crate) count: usize,
 }
 
-/// A reference is protected once more, and then another one once less.
+/// Protects the term `new` once more, and then `old` once less.
 fn protect_instead<B: TermBank>(
     engine: &mut Engine<B>,
     old: Term,
@@ -33,6 +35,7 @@ fn protect_instead<B: TermBank>(
     ensures ok { OnOk result
         (B.store engine.new.bank ≡ protected_instead (B.store engine.old.bank) old new) }
     ensures err { OnErr result (B.store engine.new.bank ≡ B.store engine.old.bank) }
+    ensures memory { IfErr result (λ e. e ≡ Memory) }
 {
     match engine.protect(new) {
         Ok(()) => {
@@ -44,12 +47,13 @@ fn protect_instead<B: TermBank>(
 }
 
 impl Saved {
-    /// No value is saved.
+    /// Makes an empty list of saved values.
     pub(crate) fn none<B: TermBank>(engine: &mut Engine<B>) -> Result<Saved, EngineFault>
         ensures same { SameEngine engine.old engine.new }
         ensures kept { IfOk result (λ s. IsKept (B.store engine.new.bank) s.list) }
         ensures none { IfOk result (λ s. listed (B.store engine.new.bank) s.list ≡ []) }
         ensures count { IfOk result (λ s. s.count ≡ 0) }
+        ensures room { RoomOnlyIfFull (B.store engine.new.bank) engine.new.memo result }
     {
         let list = engine.nil()?;
         match engine.protect(list) {
@@ -58,7 +62,7 @@ impl Saved {
         }
     }
 
-    /// So many of the values that were saved last are forgotten that this many are left.
+    /// Drops the values that were saved last until at most `count` are left.
     fn shorten<B: TermBank>(
         &mut self,
         engine: &mut Engine<B>,
@@ -75,6 +79,7 @@ impl Saved {
         ensures shortens { OnOk result (Shortens (B.store engine.old.bank)
             (B.store engine.new.bank) self.old self.new count) }
         ensures refused { OnErr result (self.new ≡ self.old) }
+        ensures memory { IfErr result (λ e. e ≡ Memory) }
     {
         let mut list = self.list;
         let mut left = self.count;
@@ -88,7 +93,7 @@ impl Saved {
         Ok(())
     }
 
-    /// Values are saved above those that are, until this many are.
+    /// Saves values above the saved ones, until at least `count` are saved.
     fn lengthen<B: TermBank>(
         &mut self,
         engine: &mut Engine<B>,
@@ -106,6 +111,7 @@ impl Saved {
             (B.store engine.new.bank) values.old.items values.new.items self.new count) }
         ensures refused { OnErr result (KeepsLowest (B.store engine.old.bank)
             (B.store engine.new.bank) values.old.items values.new.items self.old self.new) }
+        ensures room { RoomOnlyIfFull (B.store engine.new.bank) engine.new.memo result }
     {
         'values: while self.count < count {
             let list = engine.hold_on(values, self.count, self.list)?;
@@ -116,7 +122,7 @@ impl Saved {
         Ok(())
     }
 
-    /// So many of a row's lowest values are parts of the list from now on.
+    /// Saves at least the `count` lowest values of a row.
     pub(crate) fn save<B: TermBank>(
         &mut self,
         engine: &mut Engine<B>,
@@ -134,6 +140,7 @@ impl Saved {
         ensures keeps { KeepsSaved (B.store engine.old.bank) (B.store engine.new.bank)
             row.old row.new self.new }
         ensures low { OnErr result (row.new.low ≡ row.old.low) }
+        ensures room { RoomOnlyIfFull (B.store engine.new.bank) engine.new.memo result }
     {
         self.shorten(engine, row.low)?;
         self.lengthen(engine, &mut row.values, count)?;
@@ -141,8 +148,8 @@ impl Saved {
         Ok(())
     }
 
-    /// All of a row's values are parts of the list from now on, and so many of the lowest ones are
-    /// left in the row: these also after a refused call.
+    /// Saves all values of a row, and drops those above the `count` lowest from the row. They are
+    /// dropped after an error, too.
     pub(crate) fn save_all<B: TermBank>(
         &mut self,
         engine: &mut Engine<B>,
@@ -159,6 +166,7 @@ impl Saved {
             row.old row.new self.new count }
         ensures all { OnOk result (HasAll (B.store engine.new.bank) self.new.list
             row.old.values.items) }
+        ensures room { RoomOnlyIfFull (B.store engine.new.bank) engine.new.memo result }
     {
         let all = row.values.len();
         let saved = self.save(engine, row, all);

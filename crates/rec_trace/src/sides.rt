@@ -1,4 +1,4 @@
-//! The sides of rules, and the values of their variables.
+//! The sides of rules in postfix form, and the values of their variables.
 
 ghost use Rattle.std.specs.Prelude.{◌≡◌, ◌<◌, None, Some, Contains, length, slice_get, true};
 ghost use Rattle.rx_term.specs.Tree.{Tree};
@@ -15,7 +15,7 @@ use rec_engine::Engine;
 use rec_sorts::{Checked, Letter};
 use rx_term::{Term, TermBank};
 
-/// A side of a rule: its right side, or one of a condition of this number.
+/// A side of a rule: its right-hand side, or one of the condition with this number.
 #[derive(Clone, Copy, Drop)]
 pub(crate) enum Side {
     Contractum,
@@ -23,7 +23,7 @@ pub(crate) enum Side {
     Right(usize),
 }
 
-/// The letters of a side of a rule, where they stand.
+/// Returns the postfix items of a side of a rule, as the specification stores them.
 pub(crate) fn letters_of(checked: &Checked, rule: u32, side: Side) -> &[Letter]
     requires { (r : Rule) × (slice_get checked.now.spec.rules rule ≡ Some r) × HasSide r side }
     ensures letters { (r : Rule) → slice_get checked.now.spec.rules rule ≡ Some r
@@ -39,8 +39,8 @@ pub(crate) fn letters_of(checked: &Checked, rule: u32, side: Side) -> &[Letter]
     }
 }
 
-/// The value of a variable of a rule that matches, where the values are given in the order in
-/// which the variables first occur in its left side.
+/// Returns the value of a variable of a rule that matches. `bind` has the values in the order in
+/// which the variables first occur in the left-hand side.
 pub(crate) fn binding<B: TermBank>(
     engine: &Engine<B>,
     rule: u32,

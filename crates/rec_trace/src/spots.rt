@@ -1,4 +1,4 @@
-//! Where each rule of a specification begins.
+//! The locations of the rules of a specification.
 
 ghost use Rattle.std.specs.Prelude.{◌≡◌, ◌≤◌, ◌<◌, ◌^◌, IfOk, length, map};
 ghost use Rattle.rec_syntax.specs.Parts.{IsRule, rule_of};
@@ -9,7 +9,7 @@ use crate::lines::{Spot, spot_of};
 use rec_syntax::{Rule, Syntax};
 use std::alloc::{AllocError, Global};
 
-/// The spot of a byte, by that of an earlier one.
+/// Returns the location of the byte at offset `at`, from that of an earlier one.
 fn spot_behind(source: &[u8], from: usize, spot: Spot, at: usize) -> Spot
     requires order { from ≤ at }
     requires within { at ≤ length source.now }
@@ -31,7 +31,7 @@ fn spot_behind(source: &[u8], from: usize, spot: Spot, at: usize) -> Spot
     Spot { line, column }
 }
 
-/// The spot of a byte, by that of another one.
+/// Returns the location of the byte at offset `at`, from that of another one.
 fn spot_by(source: &[u8], from: usize, spot: Spot, at: usize) -> Spot
     requires within { at ≤ length source.now }
     requires short { length source.now < 2 ^ 63 }
@@ -45,7 +45,7 @@ fn spot_by(source: &[u8], from: usize, spot: Spot, at: usize) -> Spot
     }
 }
 
-/// At which byte a rule begins.
+/// Returns the offset at which a rule begins.
 fn beginning(syntax: &Syntax, rule: &Rule) -> usize
     requires { IsRule syntax.now.source rule.now }
     ensures within { result ≤ length syntax.now.source }
@@ -57,8 +57,8 @@ fn beginning(syntax: &Syntax, rule: &Rule) -> usize
     }
 }
 
-/// Where each rule begins, from the first to the last. They stand in this order in the text, so
-/// that each byte of it is read once.
+/// Returns the locations at which the rules begin, from the first to the last. Rules have this
+/// order in the text, so each byte of it is read once.
 pub fn rule_spots(alloc: Global, syntax: &Syntax) -> Result<Vec<Spot>, AllocError>
     ensures { IfOk result
         (λ spots. spots.items ≡ map (rule_spot syntax.now.source) syntax.now.spec.rules) }

@@ -1,11 +1,11 @@
-//! The machine that makes a trace, one firing after the other.
+//! The machine that makes a trace, one rewrite after another.
 
 mod beginning;
 mod finding;
 mod rewriting;
 mod running;
 
-ghost use Rattle.std.specs.Prelude.{◌≡◌, ◌<◌, ◌+◌, ◌∷◌, ◌⊎◌, ℕ, None, IfOk, OnOk, false, length};
+ghost use Rattle.std.specs.Prelude.{◌≡◌, ◌<◌, ◌+◌, ◌∷◌, ◌⊎◌, ℕ, None, IfOk, OnOk, false, length, IfErr};
 ghost use Rattle.std.specs.Prelude.{reverse};
 ghost use Rattle.rx_term.specs.Store.{tree_at};
 ghost use Rattle.rx_term.specs.Tree.{Tree, Trees};
@@ -26,6 +26,8 @@ ghost use Rattle.rec_trace.specs.Tracing.{IsEvent, IsInOrder, IsLimit, IsTurn, S
 ghost use Rattle.rec_trace.specs.declared.row.Step.TheVariants as step;
 ghost use Rattle.rec_trace.specs.declared.sides.Side.TheVariants.{Contractum};
 ghost use Rattle.rec_trace.specs.declared.tracer.Event.TheVariants.{Limit};
+ghost use Rattle.rec_engine.specs.declared.engine.errors.EngineFault.TheVariants.{Memory};
+ghost use Rattle.rec_trace.specs.Faults.{RoomOnlyIfFull};
 
 use crate::row::{Row, Step};
 use crate::saved::Saved;
@@ -36,27 +38,27 @@ use rx_term::{Term, TermBank};
 use smallvec::SmallVec;
 use std::alloc::Global;
 
-/// What is found for a call.
+/// The result of a search for a rule that applies to a call.
 #[derive(Clone, Copy, Drop)]
 pub(crate) enum Found {
-    /// The rule of this number fires.
+    /// The rule with this number applies.
     Rule(u32),
-    /// No rule fires.
+    /// No rule applies.
     Nothing,
     /// More steps are needed than are left.
     Limit,
 }
 
-/// What a step of a trace comes to.
+/// The result of one step of a trace.
 #[derive(Clone, Copy, Drop)]
 pub enum Turn {
-    /// The rule of this number, from 0, fires: the redex, and what it becomes.
+    /// The rule with this number, from 0, has replaced the redex by the contractum.
     Fired {
         rule: u32,
         redex: Term,
         contractum: Term,
     },
-    /// No rule fires any more: the value.
+    /// No rule applies any more: the value.
     Value {
         term: Term,
     },
@@ -64,19 +66,19 @@ pub enum Turn {
     Limit,
 }
 
-/// The same before it is written down what a redex becomes.
+/// The result of one step of a trace, before the contractum is built.
 #[derive(Clone, Copy, Drop)]
 pub enum Event {
-    /// The rule of this number, from 0, fires at this redex.
+    /// The rule with this number, from 0, is applied to this redex.
     Fired { rule: u32, redex: Term },
-    /// No rule fires any more: the value.
+    /// No rule applies any more: the value.
     Value { term: Term },
     /// More steps are needed than were given.
     Limit,
 }
 
-/// How far the trace of a term is, over an engine that is handed in with each call, always the
-/// same, and with no call of it in between.
+/// The state of the trace of a term over an engine. Each call gets the same engine, which is not
+/// called in between.
 #[derive(Drop)]
 pub struct Tracer {
     row: Row,
@@ -84,11 +86,11 @@ pub struct Tracer {
     left: u64,
     /// The values of the rule that matched last.
     bind: SmallVec<Term, 8>,
-    /// Room for the matcher.
+    /// Scratch memory of the matcher.
     work: Vec<Term>,
 }
 
-/// Whether a symbol may have rules: none matches an application of one that has none.
+/// Returns whether a symbol may have rules. If it has none, no rule matches an application of it.
 fn has_rules<B: TermBank>(engine: &Engine<B>, symbol: u32) -> bool
     requires { symbol < length (symbols engine.now.spec) }
     ensures { result ≡ false → (args : Trees) → next_match engine.now.spec 0
@@ -99,7 +101,7 @@ fn has_rules<B: TermBank>(engine: &Engine<B>, symbol: u32) -> bool
 }
 
 impl Tracer {
-    /// A tracer before its first step.
+    /// Returns a tracer before its first operation.
     fn new(alloc: Global, row: Row, saved: Saved, left: u64) -> Tracer
         ensures row { result.row ≡ row }
         ensures saved { result.saved ≡ saved }
@@ -114,14 +116,14 @@ impl Tracer {
         }
     }
 
-    /// How many steps are left.
+    /// Returns the number of steps left.
     pub fn left(&self) -> u64
         ensures { result ≡ self.now.left }
     {
         self.left
     }
 
-    /// Ends a trace: nothing of the engine's bank is kept for it any more.
+    /// Ends a trace, and drops the protection of its values in the engine's store.
     pub fn end<B: TermBank>(self, engine: &mut Engine<B>)
         requires { IsKept (B.store engine.old.bank) self.saved.list }
         ensures same { SameEngine engine.old engine.new }
@@ -134,8 +136,7 @@ impl Tracer {
         engine.unprotect(self.saved.list);
     }
 
-    /// The rule of a number fires at the tree on top, where its values are those that were found
-    /// last: that tree.
+    /// Applies a rule to the tree on top, with the values that were found last. Returns that tree.
     fn fire<B: TermBank>(&mut self, engine: &Engine<B>, rule: u32) -> Result<Term, EngineFault>
         requires order { IsInOrder engine.now.spec (B.store engine.now.bank) self.old }
         requires can { CanSpread engine.now.spec (B.store engine.now.bank) self.old.row rule
@@ -147,14 +148,15 @@ impl Tracer {
             → HasValues (B.store engine.now.bank) (top_of self.old.row) self.old.bind.items s
             → HasFired engine.now.spec (B.store engine.now.bank) (B.store engine.now.bank)
             self.old self.new r s redex) }
+        ensures memory { IfErr result (λ e. e ≡ Memory) }
     {
         let redex = self.row.top();
         self.row.spread(engine, rule, Side::Contractum, &self.bind)?;
         Ok(redex)
     }
 
-    /// A symbol is called on the values on top: a rule fires, or the limit is passed. None, where
-    /// no rule fires.
+    /// Calls a symbol on the values on top. Returns a rewrite or the limit, or `None` if no rule
+    /// applies.
     fn call<B: TermBank>(
         &mut self,
         engine: &mut Engine<B>,
@@ -172,6 +174,7 @@ impl Tracer {
         ensures comes { IfOk result (λ event. ComesTo engine.old.spec (B.store engine.old.bank)
             (B.store engine.new.bank) self.old self.new
             (name_of engine.old.spec (Symbol symbol)) count event) }
+        ensures room { RoomOnlyIfFull (B.store engine.new.bank) engine.new.memo result }
     {
         self.row.apply(engine, symbol, count)?;
         if !has_rules(engine, symbol) {
@@ -187,8 +190,10 @@ impl Tracer {
         }
     }
 
-    /// Goes on to the next firing, to the value, or to the limit, as `next_step` does. What the
-    /// redex becomes is not written down: `rewrite` does so for a firing, before the next call.
+    /// Continues to the next rewrite, to the value or to the limit, and does not build the
+    /// contractum. [`Tracer::rewrite`] builds it, if it is called before the next event.
+    ///
+    /// Errors are those of [`Tracer::next_step`].
     pub fn next_event<B: TermBank>(&mut self, engine: &mut Engine<B>) -> Result<Event, EngineFault>
         requires { Stands engine.old.spec (B.store engine.old.bank) self.old }
         ensures same { SameEngine engine.old engine.new }
@@ -198,6 +203,7 @@ impl Tracer {
             ⊎ Stands engine.old.spec (B.store engine.new.bank) self.new) }
         ensures event { IfOk result (IsEvent engine.old.spec (B.store engine.old.bank)
             (B.store engine.new.bank) self.old self.new) }
+        ensures room { RoomOnlyIfFull (B.store engine.new.bank) engine.new.memo result }
     {
         'turns: while let Some(step) = self.row.steps.pop() {
             match step {
@@ -214,7 +220,12 @@ impl Tracer {
         Ok(Event::Value { term })
     }
 
-    /// Goes on to the next firing, to the value, or to the limit.
+    /// Continues to the next rewrite, to the value or to the limit.
+    ///
+    /// # Errors
+    ///
+    /// `Memory` if an allocation failed, `Room` if the store is full and the memo table is empty.
+    /// After an error or a limit, the tracer can only be ended.
     pub fn next_step<B: TermBank>(
         &mut self,
         alloc: Global,
@@ -228,6 +239,7 @@ impl Tracer {
             ⊎ Stands engine.old.spec (B.store engine.new.bank) self.new) }
         ensures turn { IfOk result (IsTurn engine.old.spec (B.store engine.old.bank)
             (B.store engine.new.bank) self.old self.new) }
+        ensures room { RoomOnlyIfFull (B.store engine.new.bank) engine.new.memo result }
     {
         match self.next_event(engine)? {
             Event::Limit => Ok(Turn::Limit),

@@ -1,70 +1,83 @@
-//! What a run leaves for its explanation.
+//! The inputs and the result of a run, for the explanation of its error.
 
 use crate::expected::expected_words;
 use crate::input::{Input, open, open_file};
 use crate::item::{element_of_terms, item_of_args};
-use crate::recorded::{Output, Recorded};
+use crate::recorded::Recorded;
 use crate::report::Outcome;
-use rec_run::{Ending, Reason, Refusal, RunDepthFault, RunFault, Source};
+use crate::screen::Look;
 use recw_words::{
-    Given, Invocation, Item, NamedRefusal, Request, STANDARD_INPUT, TextName, Texts, Which,
-    explain_given, explain_place, explain_text, explain_trouble,
+    Form, Given, Invocation, Item, NamedRefusal, Request, STANDARD_INPUT, TextName, Texts, Which,
+    explain_given, explain_part, explain_place, explain_trouble, explain_whole,
 };
+use rx_run::{Ending, Reason, Refusal, RunFault, Source};
 use std::alloc::Global;
 use std::io;
-use std::io::{Error, Read, Write};
+use std::io::{Error, ErrorKind, Read, Write};
 use std::rt::Files;
 
-/// A stream that failed, and why.
+/// A stream that failed, and the reason.
 #[derive(Clone, Copy)]
 struct Trouble<'a> {
-    /// What the stream is called.
+    /// The name of the stream.
     name: TextName<'a>,
-    /// What the system said.
+    /// The system's error.
     error: Error,
 }
 
-/// What is asked of a run, and what it leaves: the texts that it read, and what came of them.
+/// The request of a run, the texts that it read, and its results.
 #[derive(Drop)]
 pub struct Evidence<'a> {
     /// The allocator of the texts.
     pub alloc: Global,
-    /// What is asked for.
+    /// The request.
     pub invocation: &'a Invocation<'a>,
-    /// Whether a refusal is to be explained.
+    /// Whether errors are explained.
     pub is_curious: bool,
-    /// Behind how many words the one stands that was refused, where it is a given term.
+    /// What standard output is.
+    pub look: Look,
+    /// The form of the findings of a check.
+    pub form: Form,
+    /// The index of the rejected term, if it was given with `-e`.
     word: Option<usize>,
     /// The text of the specification, or of the term.
     pub first: Vec<u8>,
-    /// The text of the given terms.
+    /// The path of the part that is rejected, if the specification is joined of several.
+    pub part: Option<&'a str>,
+    /// The text of the input terms.
     pub second: Vec<u8>,
-    /// What was kept of the output.
-    pub output: Output,
-    /// The lines that tell of the calls in values.
+    /// Whether a pattern matches.
+    pub is_match: bool,
+    /// The number of limit lines that were written.
+    pub limit_lines: u64,
+    /// The lines that report stuck calls.
     pub calls: Vec<u8>,
-    /// What failed, and why.
+    /// The stream that failed, and the reason.
     trouble: Option<Trouble<'a>>,
 }
 
 impl<'a> Evidence<'a> {
-    /// Nothing so far.
+    /// Returns the state before a run.
     pub fn new(alloc: Global, invocation: &'a Invocation<'a>) -> Evidence<'a> {
         Evidence {
             alloc,
             invocation,
             is_curious: invocation.explain,
+            look: Look::PLAIN,
+            form: Form::Lines,
             word: None,
             first: Vec::new(alloc),
+            part: None,
             second: Vec::new(alloc),
-            output: Output::new(),
+            is_match: false,
+            limit_lines: 0,
             calls: Vec::new(alloc),
             trouble: None,
         }
     }
 
-    /// The file that is read first, or the standard input in its place; `source` says which text it
-    /// holds.
+    /// Opens the file that is read first, or uses standard input if none is named. `source` is the
+    /// kind of the text.
     pub fn open_first<'i, H: Files, R: Read>(
         &mut self,
         rt: &H,
@@ -76,14 +89,14 @@ impl<'a> Evidence<'a> {
         self.note_open(open(rt, path, input), name)
     }
 
-    /// The file of the specification. Fails where none is named.
+    /// Opens the file of the specification. Fails if none is named.
     pub fn open_spec<H: Files>(&mut self, rt: &H) -> Result<H::File, RunFault> {
         let name = self.name_of(Source::Spec);
         let path = self.invocation.request.path();
         self.note_open(open_file(rt, path), name)
     }
 
-    /// What was opened under this name. Where it could not be, that is kept, with the reason.
+    /// Returns a file that was opened under this name, or records why it could not be opened.
     pub fn note_open<T>(
         &mut self,
         opening: io::Result<T>,
@@ -98,7 +111,7 @@ impl<'a> Evidence<'a> {
         }
     }
 
-    /// What the text is called where it is read.
+    /// Returns the name of an input text.
     pub fn name_of(&self, source: Source) -> TextName<'a> {
         let request = &self.invocation.request;
         let path = match (source, self.word) {
@@ -106,6 +119,7 @@ impl<'a> Evidence<'a> {
             (Source::Args, _) => Some("ARGS"),
             (Source::Terms, Some(word)) => return TextName::Word(word),
             (Source::Terms, None) => request.terms_path(),
+            (Source::Spec, _) if self.part.is_some() => self.part,
             (Source::Term, None) if matches!(request, Request::Serve { .. }) => {
                 request.requests_path()
             }
@@ -117,7 +131,7 @@ impl<'a> Evidence<'a> {
         }
     }
 
-    /// What the requests of a conversation are called.
+    /// Returns the name of the requests of a session.
     pub fn requests_name(&self) -> &'a str {
         match self.invocation.request.requests_path() {
             Some(path) => path,
@@ -125,13 +139,14 @@ impl<'a> Evidence<'a> {
         }
     }
 
-    /// A reader whose text is kept where a refusal is to be explained.
+    /// Returns a reader that records its text if errors are explained.
     pub fn record<'r, R: Read>(&self, input: &'r mut R) -> Recorded<'r, R> {
         Recorded::new(self.alloc, input, self.is_curious)
     }
 
-    /// The text that was read under this name. Where a read failed, that is what could not be read,
-    /// unless one was noted before: given terms, which are read last, are noted first.
+    /// Returns the text that was read under this name. If a read failed, records the name and the
+    /// reason, unless an earlier failure is recorded. Input terms, which are read last, are
+    /// recorded first.
     pub fn note_read(&mut self, end: (Vec<u8>, Option<Error>), name: TextName<'a>) -> Vec<u8> {
         let (text, trouble) = end;
         if let Some(error) = trouble
@@ -142,31 +157,41 @@ impl<'a> Evidence<'a> {
         text
     }
 
-    /// Keeps the text that was read first; `source` says which it is.
+    /// Keeps the text that was read first; `source` is its kind.
     pub fn keep_first<R: Read>(&mut self, read: Recorded<'_, R>, source: Source) {
         let name = self.name_of(source);
         self.first = self.note_read(read.finish(), name);
     }
 
-    /// Keeps the text of the given terms.
+    /// Keeps the text of the input terms.
     pub fn keep_second<R: Read>(&mut self, read: Recorded<'_, R>) {
         let name = self.name_of(Source::Terms);
         self.second = self.note_read(read.finish(), name);
     }
 
-    /// What was kept of the output.
-    pub fn note_output(&mut self, output: Output) {
-        if let Some(error) = output.trouble
+    /// Records the error of a write to standard output, if one failed.
+    pub fn note_write(&mut self, trouble: Option<Error>) {
+        if let Some(error) = trouble
             && self.trouble.is_none()
         {
             let name = TextName::Path("<stdout>");
             self.trouble = Some(Trouble { name, error });
         }
-        self.output = output;
     }
 
-    /// How a run ended whose given terms are made of words: a refusal of them is told of the word
-    /// in which it stands.
+    /// Returns whether a failure is not reported: the reader of standard output went away, and the
+    /// options do not ask for explanations.
+    pub fn is_quiet(&self) -> bool {
+        match self.trouble {
+            Some(Trouble { error, .. }) => {
+                error.kind() == ErrorKind::BrokenPipe && !self.invocation.explain
+            }
+            None => false,
+        }
+    }
+
+    /// Converts the end of a run with terms given with `-e`: a syntax error is located in the
+    /// option that contains it.
     pub fn note_word(&mut self, ending: Ending, given: &Given) -> Ending {
         match ending {
             Ending::Refused(
@@ -187,39 +212,42 @@ impl<'a> Evidence<'a> {
         }
     }
 
-    /// Explains how a run ended, where there is more to say than the line that was written.
-    pub fn explain<W: Write>(
-        &self,
-        end: Result<Outcome, RunDepthFault>,
-        out: &mut W,
-    ) -> io::Result<()> {
+    /// Explains how a run ended, if there is more to report than the error line.
+    pub fn explain<W: Write>(&self, end: Result<Outcome, RunFault>, out: &mut W) -> io::Result<()> {
         match end {
             Ok(Outcome::Refused(refusal)) => self.explain_refusal(refusal, out),
-            Err(RunDepthFault::Run(RunFault::Read | RunFault::Write)) => self.explain_trouble(out),
-            Err(RunDepthFault::Run(RunFault::Room { .. })) => {
-                explain_room(self.invocation.request, out)
-            }
-            Err(RunDepthFault::Deep { .. }) => explain_depth(self.invocation.request, out),
+            Err(RunFault::Read | RunFault::Write) => self.explain_trouble(out),
+            Err(RunFault::Room { .. }) => { explain_room(self.invocation.request, out) }
+            Err(RunFault::Deep { .. }) => explain_depth(self.invocation.request, out),
             _ => Ok(()),
         }
     }
 
-    /// Says what the refusal means, and where it stands.
+    /// Explains an error of an input.
     fn explain_refusal<W: Write>(&self, refusal: Refusal, out: &mut W) -> io::Result<()> {
         let source = refusal.text;
         let text = self.name_of(source);
         let reason = refusal.reason;
         let named = NamedRefusal { text, reason };
         match (refusal.place(), source) {
+            (Some(place), Source::Spec) if self.is_in_part(reason) => {
+                explain_part(named, self.text_of(source), place.at as usize, out)
+            }
             (Some(place), _) => {
                 self.explain_at(named, self.text_of(source), place.at as usize, out)
             }
             (None, Source::Terms) => self.explain_terms(named, out),
-            (None, _) => explain_text(named, self.item_of(source), out),
+            (None, _) => { explain_whole(named, self.text_of(source), self.item_of(source), out) }
         }
     }
 
-    /// Says what a refusal at a place of a text means, and what may stand there.
+    /// Returns whether an error is located in one of several parts that are a specification
+    /// together.
+    fn is_in_part(&self, reason: Reason) -> bool {
+        self.part.is_some() && matches!(reason, Reason::Rule { .. })
+    }
+
+    /// Explains an error with an offset in a text, and the expected tokens.
     fn explain_at<W: Write>(
         &self,
         refusal: NamedRefusal<'_>,
@@ -234,12 +262,12 @@ impl<'a> Evidence<'a> {
         }
     }
 
-    /// Says which given term is refused, and which part of it.
+    /// Explains an error of the input terms, with the rejected term and part.
     fn explain_terms<W: Write>(&self, refusal: NamedRefusal<'_>, out: &mut W) -> io::Result<()> {
         let spec = self.first.as_slice();
         let terms = self.second.as_slice();
         let Some(element) = element_of_terms(self.alloc, spec, terms) else {
-            return explain_text(refusal, None, out);
+            return explain_whole(refusal, terms, None, out);
         };
         match self.invocation.given.as_slice().get(element) {
             Some(word) => {
@@ -257,7 +285,7 @@ impl<'a> Evidence<'a> {
         }
     }
 
-    /// Which item of a list is refused, where the text is one and that can be told.
+    /// Returns the list item that causes an error, if the text is a list and the item can be found.
     fn item_of(&self, source: Source) -> Option<Item> {
         match (source, self.invocation.request) {
             (Source::Args, Request::Make { pattern, args }) => {
@@ -267,7 +295,7 @@ impl<'a> Evidence<'a> {
         }
     }
 
-    /// Says which stream failed, and why.
+    /// Writes the name of the stream that failed, and the reason.
     fn explain_trouble<W: Write>(&self, out: &mut W) -> io::Result<()> {
         match self.trouble {
             Some(Trouble { name, error }) => explain_trouble(self.alloc, name, error, out),
@@ -275,7 +303,7 @@ impl<'a> Evidence<'a> {
         }
     }
 
-    /// The text that was refused.
+    /// Returns the rejected text.
     fn text_of(&self, source: Source) -> &[u8] {
         match (source, self.invocation.request) {
             (Source::Pattern, Request::Match { pattern, .. } | Request::Make { pattern, .. }) => {
@@ -287,7 +315,7 @@ impl<'a> Evidence<'a> {
         }
     }
 
-    /// The text of the given terms, or the word that was refused.
+    /// Returns the text of the input terms, or of the rejected one of those given with `-e`.
     fn given_text(&self) -> &[u8] {
         match self.word {
             Some(word) => self.word_text(word),
@@ -295,7 +323,7 @@ impl<'a> Evidence<'a> {
         }
     }
 
-    /// The word that stands behind so many others.
+    /// Returns the term given with `-e` that has this index.
     fn word_text(&self, before: usize) -> &[u8] {
         match self.invocation.given.as_slice().get(before) {
             Some(word) => word.as_bytes(),
@@ -304,7 +332,7 @@ impl<'a> Evidence<'a> {
     }
 }
 
-/// Names the option that raises the limit on cells.
+/// Names the option that raises the store limit.
 fn explain_room<W: Write>(request: Request<'_>, out: &mut W) -> io::Result<()> {
     match request {
         Request::Eval { options, .. }
@@ -312,19 +340,25 @@ fn explain_room<W: Write>(request: Request<'_>, out: &mut W) -> io::Result<()> {
         | Request::Trace { options, .. } => {
             let cells = options.cells;
             let noun = if cells == 1 { "cell" } else { "cells" };
-            writeln!(out, "--cells raises the limit, which is {cells} {noun}")
+            writeln!(
+                out,
+                "the store limit is {cells} {noun}; raise it with --cells"
+            )
         }
         _ => Ok(()),
     }
 }
 
-/// Names the option that raises the limit on calls that wait.
+/// Names the option that raises the call-depth limit.
 fn explain_depth<W: Write>(request: Request<'_>, out: &mut W) -> io::Result<()> {
     if let Request::Eval { options, .. } = request
         && let Some(depth) = options.depth
     {
-        let noun = if depth == 1 { "call" } else { "calls" };
-        writeln!(out, "--depth raises the limit, which is {depth} {noun}")
+        let noun = if depth == 1 { "frame" } else { "frames" };
+        writeln!(
+            out,
+            "the call-depth limit is {depth} {noun}; raise it with --depth"
+        )
     } else {
         Ok(())
     }

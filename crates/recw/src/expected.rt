@@ -1,12 +1,12 @@
-//! What may stand at the place of a refusal, in words.
+//! Names of the expected tokens at a syntax error.
 
-use rec_run::Reason;
 use rec_syntax::{Part, TokenKind as SpecificationToken};
+use rx_run::Reason;
 use rx_text::TokenKind as TermToken;
 use std::alloc::Global;
 
-/// What may stand where a rule of a grammar refuses the text; nothing of other rules, and where
-/// there is no memory to tell. A text that was not kept ends before its place.
+/// Returns the names of the tokens that are expected at a syntax error. Returns none for other
+/// errors, if an allocation fails, or if the text was not recorded up to the offset.
 pub fn expected_words(
     alloc: Global,
     reason: Reason,
@@ -31,10 +31,10 @@ pub fn expected_words(
     }
 }
 
-/// What a specification's token is called.
+/// Returns the name of a token of specifications.
 pub fn specification_token(kind: SpecificationToken) -> &'static str {
     match kind {
-        SpecificationToken::PlainWord => "a plain word",
+        SpecificationToken::PlainWord => "an identifier",
         SpecificationToken::RecSpec => "`REC-SPEC`",
         SpecificationToken::Section(Part::Sorts) => "`SORTS`",
         SpecificationToken::Section(Part::Cons) => "`CONS`",
@@ -52,11 +52,11 @@ pub fn specification_token(kind: SpecificationToken) -> &'static str {
         SpecificationToken::Arrow => "`->`",
         SpecificationToken::Equal => "`-><-`",
         SpecificationToken::Unequal => "`->/<-`",
-        SpecificationToken::End => "the end",
+        SpecificationToken::End => "the end of the text",
     }
 }
 
-/// What an annotated term's token is called.
+/// Returns the name of a token of ATerms.
 pub fn term_token(kind: TermToken) -> &'static str {
     match kind {
         TermToken::Integer => "an integer",
@@ -70,6 +70,6 @@ pub fn term_token(kind: TermToken) -> &'static str {
         TermToken::Less => "`<`",
         TermToken::Greater => "`>`",
         TermToken::Comma => "`,`",
-        TermToken::End => "the end",
+        TermToken::End => "the end of the text",
     }
 }

@@ -1,11 +1,12 @@
-//! Given terms that stand among the words.
+//! Input terms given with `-e`.
 
-use rec_run::{RunFault, print_term};
 use recw_words::Given;
+use rx_run::{RunFault, print_term};
 use std::alloc::Global;
 use std::io;
 
-/// The text that the words make. It is refused where the first word that is no term is.
+/// Returns the list of these terms as a text. The first malformed term makes the list malformed at
+/// the same location.
 pub fn given_by(alloc: Global, words: &[&str]) -> Result<Given, RunFault> {
     let mut given = Given::new(alloc);
     for word in words {
@@ -16,7 +17,7 @@ pub fn given_by(alloc: Global, words: &[&str]) -> Result<Given, RunFault> {
     Ok(given)
 }
 
-/// Where a word leaves the grammar of terms, if it does.
+/// Returns the offset of a syntax error in a term, if there is one.
 fn fault_of(alloc: Global, word: &str) -> Result<Option<usize>, RunFault> {
     let ending = print_term(alloc, &mut word.as_bytes(), &mut io::sink())?;
     Ok(ending.place().map(|place| place.at as usize))

@@ -1,4 +1,4 @@
-//! What a run reads.
+//! The input of a run.
 
 use recw_words::STANDARD_INPUT;
 use std::fs::File;
@@ -6,10 +6,19 @@ use std::io;
 use std::io::{ErrorKind, Read};
 use std::rt::Files;
 
-/// The standard input, or a file.
+/// The files and the standard input of a run.
+#[derive(Drop)]
+pub struct Sources<'a, H, R> {
+    /// Opens the files.
+    pub rt: &'a H,
+    /// Standard input.
+    pub input: &'a mut R,
+}
+
+/// Standard input or a file.
 #[derive(Drop)]
 pub enum Input<'a, R, F> {
-    /// The standard input.
+    /// Standard input.
     Standard(&'a mut R),
     /// A file.
     File(F),
@@ -24,7 +33,7 @@ impl<R: Read, F: Read> Read for Input<'_, R, F> {
     }
 }
 
-/// The file at `path`, or the standard input where there is no path, or the one that stands for it.
+/// Opens the file at `path`, or uses standard input if there is no path or the path is `-`.
 pub fn open<'a, H: Files, R: Read>(
     rt: &H,
     path: Option<&str>,
@@ -36,7 +45,7 @@ pub fn open<'a, H: Files, R: Read>(
     }
 }
 
-/// The file at `path`. Fails where there is no path.
+/// Opens the file at `path`. Fails if there is no path.
 pub fn open_file<H: Files>(rt: &H, path: Option<&str>) -> io::Result<H::File> {
     match path {
         Some(path) => File::open(rt, path),
@@ -44,7 +53,7 @@ pub fn open_file<H: Files>(rt: &H, path: Option<&str>) -> io::Result<H::File> {
     }
 }
 
-/// The file at `path`, where there is one.
+/// Opens the file at `path`, if there is one.
 pub fn open_given<H: Files>(rt: &H, path: Option<&str>) -> io::Result<Option<H::File>> {
     match path {
         None => Ok(None),

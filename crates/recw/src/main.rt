@@ -1,4 +1,33 @@
-//! Does what the words of the command line ask for, and ends with its status.
+//! The program `recw`.
+//!
+//! `main` reads the arguments of the process and calls `program` with its standard streams.
+//! `program` parses the arguments, runs the command, reports how the run ended, and returns the
+//! exit status. It is generic over files and streams, so that the tests call it with files in
+//! memory.
+//!
+//! ```text
+//! recw eval add.rec     # s(s(s(z)))
+//! recw check add.rec    # no output: there is nothing to warn of
+//! ```
+//!
+//! | Modules | Subject |
+//! |---|---|
+//! | `program`, `work`, `check`, `uses`, `join`, `joined`, `serve` | the commands and their files |
+//! | `mapped` | the lines of `check --join` |
+//! | `evidence`, `recorded`, `expected`, `item` | texts and errors of a run, for `--explain` |
+//! | `report`, `profile`, `progress`, `prompts`, `screen` | messages on standard error |
+//! | `options`, `given`, `input` | conversions from the command line |
+//!
+//! **Invariants.** All named files are opened before anything is read, except that `check`, `join`
+//! and `--join` take one file after the other. A stream that failed is not used again. Texts are
+//! recorded only if errors are explained. A message that cannot be written is dropped and does not
+//! change the exit status.
+//!
+//! **Errors.** The exit status is 0 to 5 as in the help. The status as a function of the run's end
+//! has a contract (`report`); messages and the parsing of arguments are only tested.
+//!
+//! **Cost.** That of the run. Output is buffered in 64 KiB, and flushed early as `Prompt`
+//! describes.
 #![tactic(auto)]
 
 mod check;
@@ -7,11 +36,14 @@ mod expected;
 mod given;
 mod input;
 mod item;
-mod look;
+mod join;
+mod joined;
+mod mapped;
 mod options;
 mod profile;
 mod program;
 mod progress;
+mod prompts;
 mod recorded;
 mod report;
 mod screen;
@@ -20,80 +52,43 @@ mod serve;
 mod shelf;
 #[cfg(test)]
 mod tests;
+mod uses;
 mod work;
 
-use evidence::Evidence;
-use program::obey;
-use progress::Progress;
-use recw_words::{Asked, Console, Guarded, Invocation, Prompt, Request, read_words};
-use screen::Screen;
+use program::program;
+use recw_words::{Guarded, Prompt};
+use screen::Terminal;
 use std::alloc::Global;
 use std::env;
-use std::env::{Env, FillError};
-use std::io::{self, BufWriter, IsTerminal, Stderr, Write};
+use std::io::{self, BufWriter};
 use std::process::ExitCode;
 
-/// How many bytes of output are written at once.
+/// The size of the output buffer, in bytes.
 const OUT_CAPACITY: usize = 65_536;
 
-/// The program as it is started.
+/// Runs the program on the arguments of the process and its standard streams.
 fn main(rt: HostRuntime) -> ExitCode {
     let status = match start(&rt, rt.alloc()) {
         Ok(status) => status,
-        Err(error) => recw_words::failed_start(&error, &mut console(&rt)),
+        Err(error) => recw_words::failed_start(&error, &mut Terminal::new(&rt, rt.alloc())),
     };
     ExitCode::from(status)
 }
 
-/// Fails where a word is no text, and where there is no memory.
+/// Runs the program; fails if an argument is not UTF-8 or if there is not enough memory for the
+/// arguments and the output buffer.
 fn start(rt: &HostRuntime, alloc: Global) -> io::Result<u8> {
     let given: Vec<String> = env::args(rt)?.skip(1).collect(alloc)?;
-    start_with(rt, alloc, given.as_slice())
-}
-
-/// Fails where there is no memory. No words ask for an evaluation.
-fn start_with(rt: &HostRuntime, alloc: Global, given: &[String]) -> io::Result<u8> {
     let words: Vec<&str> = given.iter().map(|word| word.as_str()).collect(alloc)?;
-    let guarded = Guarded::new(rt.stdout());
-    let buffered = BufWriter::with_capacity(alloc, OUT_CAPACITY, guarded)?;
+    let buffered = BufWriter::with_capacity(alloc, OUT_CAPACITY, Guarded::new(rt.stdout()))?;
     let mut out = Prompt::new(rt, buffered);
-    match read_words(alloc, words.as_slice(), &mut out, &mut console(rt)) {
-        Asked::Run(invocation) => Ok(run(rt, alloc, &invocation, &mut out)),
-        Asked::End(status) => Ok(status),
-    }
-}
-
-/// Does what is asked for, and gives the exit status.
-fn run<W: Write>(rt: &HostRuntime, alloc: Global, invocation: &Invocation<'_>, out: &mut W) -> u8 {
-    let screen = screen_for(rt, alloc, &invocation.request);
-    let mut evidence = Evidence::new(alloc, invocation);
-    let mut input = rt.stdin();
-    let mut err = console(rt);
-    obey(rt, &mut evidence, &mut input, out, &mut err, screen)
-}
-
-/// Where it is shown how far an evaluation is: where that is asked for, and on a terminal.
-fn screen_for<'a>(rt: &'a HostRuntime, alloc: Global, request: &Request<'_>) -> Screen<'a> {
-    let err = rt.stderr();
-    let (is_asked, steps) = match *request {
-        Request::Eval { options, .. } => { (options.progress || err.is_terminal(), options.steps) }
-        _ => (false, 0),
-    };
-    let progress = Progress::new(alloc, rt, is_asked, steps);
-    Screen { progress, err }
-}
-
-/// Standard error, and whether somebody reads it: where it is a terminal, or the variable is there.
-fn console(rt: &HostRuntime) -> Console<Stderr> {
-    let err = rt.stderr();
-    let is_curious = err.is_terminal() || has_variable(rt, "RECW_EXPLAIN");
-    Console::new(err, is_curious)
-}
-
-/// Whether a variable is there, whatever its value.
-fn has_variable(env: &impl Env, name: &str) -> bool {
-    match env.var(name, &mut [0u8; 1]) {
-        Ok(_) | Err(FillError::TooLong) => true,
-        Err(FillError::NotPresent) => false,
-    }
+    let mut err = Terminal::new(rt, alloc);
+    Ok(program(
+        rt,
+        alloc,
+        words.as_slice(),
+        &mut rt.stdin(),
+        &mut out,
+        &mut err,
+    ))
 }

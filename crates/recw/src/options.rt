@@ -1,11 +1,11 @@
-//! The options of runs.
+//! Conversion of command-line options to the options of runs.
 
 use rec_look::{Picked, TraceOptions};
-use rec_run::{LimitLines, RunOptions, RunSettings};
+use rec_run::{LimitLines, RunOptions, RunSettings, ValueForm};
 use rec_serve::ServeSettings;
 use recw_words::{EvalOptions, RulePlace, Shown};
 
-/// What a run may use.
+/// Returns the limits of a run.
 fn run_options(options: EvalOptions) -> RunOptions {
     RunOptions {
         steps: options.steps,
@@ -16,7 +16,7 @@ fn run_options(options: EvalOptions) -> RunOptions {
     }
 }
 
-/// What limit lines are to say.
+/// Returns the form of limit lines.
 fn limit_lines(options: EvalOptions) -> LimitLines {
     if options.limit_annotations {
         LimitLines::Annotated
@@ -25,16 +25,25 @@ fn limit_lines(options: EvalOptions) -> LimitLines {
     }
 }
 
-/// All that an evaluation is told.
+/// Returns the form of values.
+fn value_form(options: EvalOptions) -> ValueForm {
+    match options.bytes {
+        Some(most) => ValueForm::Within(most),
+        None => ValueForm::Plain,
+    }
+}
+
+/// Returns the settings of an evaluation.
 pub fn run_settings(options: EvalOptions) -> RunSettings {
     RunSettings {
         options: run_options(options),
         limits: limit_lines(options),
+        form: value_form(options),
         depth: options.depth,
     }
 }
 
-/// Which of the rules that fire are shown.
+/// Returns the selection of rewrites that a trace shows.
 fn picks(shown: Shown<'_>) -> Picked<'_> {
     Picked {
         place: shown.rule.map(rule_place),
@@ -44,7 +53,7 @@ fn picks(shown: Shown<'_>) -> Picked<'_> {
     }
 }
 
-/// The place of a rule, as a trace is told of it.
+/// Returns the location of the rule that a trace shows.
 fn rule_place(place: RulePlace) -> rec_look::RulePlace {
     rec_look::RulePlace {
         line: place.line,
@@ -52,7 +61,7 @@ fn rule_place(place: RulePlace) -> rec_look::RulePlace {
     }
 }
 
-/// All that a trace is told.
+/// Returns the settings of a trace.
 pub fn trace_options(options: EvalOptions, shown: Shown<'_>) -> TraceOptions<'_> {
     TraceOptions {
         run: run_options(options),
@@ -62,10 +71,11 @@ pub fn trace_options(options: EvalOptions, shown: Shown<'_>) -> TraceOptions<'_>
     }
 }
 
-/// All that a conversation is told.
+/// Returns the settings of a session.
 pub fn serve_settings(options: EvalOptions) -> ServeSettings {
     ServeSettings {
         options: run_options(options),
+        form: value_form(options),
         depth: options.depth,
     }
 }

@@ -1,4 +1,4 @@
-//! What a run took: how often each rule was used, and the steps and cells.
+//! The report of `--profile`: the uses of each rule, steps and cells.
 
 use rec_look::{Spot, rule_spots};
 use rec_run::{Profiler, RuleCount, Tally};
@@ -7,22 +7,22 @@ use std::alloc::Global;
 use std::io;
 use std::io::Write;
 
-/// What is told where there is no memory for more.
+/// The line that is written if there is no memory for the report.
 const NO_MEMORY: &[u8] = b"profile: out of memory\n";
 
-/// Tells on standard error what a run took, where that is asked for.
+/// Writes the report, if it is requested.
 #[derive(Drop)]
 pub struct Profile<'a, E> {
-    /// The allocator of what is told.
+    /// The allocator of the report.
     alloc: Global,
-    /// Whether it is told.
+    /// Whether it is requested.
     is_asked: bool,
-    /// Where it is told.
+    /// The output.
     err: &'a mut E,
 }
 
 impl<'a, E: Write> Profile<'a, E> {
-    /// It is told there, where it is asked for.
+    /// Returns a profiler that writes to `err` if the report is requested.
     pub fn new(alloc: Global, is_asked: bool, err: &'a mut E) -> Profile<'a, E> {
         Profile {
             alloc,
@@ -39,14 +39,14 @@ impl<E: Write> Profiler for Profile<'_, E> {
 
     fn conclude(&mut self, checked: &Checked, counts: &[RuleCount], tally: Tally) {
         if self.is_asked {
-            // Lines that cannot be written are left out.
+            // Lines that cannot be written are dropped.
             let _ = write_profile(self.alloc, checked, counts, tally, self.err);
         }
     }
 }
 
-/// Writes a line for each rule, in their order, and then what was done; one line where there was no
-/// memory to count or to tell.
+/// Writes a line for each rule, in their order, and then the totals. Writes one line instead if
+/// there was no memory for the counters or for the report.
 fn write_profile<W: Write>(
     alloc: Global,
     checked: &Checked,
@@ -60,7 +60,7 @@ fn write_profile<W: Write>(
     }
 }
 
-/// The lines. The error is want of memory, also where the rules were not counted.
+/// Returns the lines. The only error is out of memory, which includes rules that were not counted.
 fn profile_of(
     alloc: Global,
     checked: &Checked,
@@ -77,7 +77,7 @@ fn profile_of(
     Ok(text)
 }
 
-/// How often a rule matched.
+/// Returns the number of matches of all rules.
 fn matches_of(counts: &[RuleCount]) -> u64 {
     let mut matched = 0u64;
     for count in counts {
@@ -104,11 +104,11 @@ fn write_rule<W: Write>(spot: Spot, count: RuleCount, out: &mut W) -> io::Result
     } = count;
     writeln!(
         out,
-        "profile: {line}:{column}: {matched} matched, {fired} fired, {failed} failed"
+        "profile: {line}:{column}: {matched} matched, {fired} applied, {failed} failed"
     )
 }
 
-/// Writes the lines of what was done, of which the rules that matched took so many steps.
+/// Writes the lines of the totals; `matched` is the number of steps that matches spent.
 fn write_tally<W: Write>(tally: Tally, matched: u64, out: &mut W) -> io::Result<()> {
     let Tally {
         steps,
@@ -118,12 +118,12 @@ fn write_tally<W: Write>(tally: Tally, matched: u64, out: &mut W) -> io::Result<
     } = tally;
     writeln!(
         out,
-        "profile: steps: {steps} spent, {matched} matched, {saved} remembered by {remembered} results"
+        "profile: steps: {steps} spent, {matched} matched, {saved} saved by {remembered} memo hits"
     )?;
     write_cells(tally, out)
 }
 
-/// Writes the lines that tell of cells.
+/// Writes the lines about cells.
 fn write_cells<W: Write>(tally: Tally, out: &mut W) -> io::Result<()> {
     let Tally {
         made,
@@ -131,6 +131,6 @@ fn write_cells<W: Write>(tally: Tally, out: &mut W) -> io::Result<()> {
         reclaims,
         ..
     } = tally;
-    writeln!(out, "profile: cells: {made} made, {most} held at most")?;
-    writeln!(out, "profile: reclaims: {reclaims}")
+    writeln!(out, "profile: cells: {made} made, {most} in use at most")?;
+    writeln!(out, "profile: garbage collections: {reclaims}")
 }

@@ -1,69 +1,91 @@
-//! Does what the words ask.
+//! From parsed arguments to the exit status.
 
 use crate::check::check;
 use crate::evidence::Evidence;
 use crate::given::given_by;
-use crate::input::open_given;
-use crate::look;
+use crate::input::{Sources, open_given};
+use crate::join::join;
+use crate::joined::evaluate_joined;
 use crate::profile::Profile;
-use crate::recorded::Watched;
+use crate::prompts::Typed;
+use crate::recorded::RecordedWriter;
 use crate::report::{Outcome, tell_end};
+use crate::screen::Screen;
 use crate::serve::serve;
+use crate::uses::list_uses;
 use crate::work::{Calls, Firings, Values, Work};
-use rec_run::{
-    Ending, Observer, Profiler, RunDepthFault, RunFault, Source, Watch, make_term, match_term,
-    print_term, share_term,
-};
+use rec_run::{NoTerms, Observer, RunReport, Unwatched};
 use rec_stuck::StuckReport;
 use recw_words::status::{eval_status, match_status};
-use recw_words::{Audience, EvalOptions, Request, STANDARD_INPUT};
+use recw_words::{Asked, EvalOptions, Invocation, Request, STANDARD_INPUT, read_words};
 use rx_look::{run_aterm_indented, run_share_dot};
+use rx_run::{Ending, RunFault, Source, make_term, match_term, print_term, share_term};
+use rx_text::Input;
+use std::alloc::Global;
 use std::io::{Read, Write};
 use std::rt::Files;
 
-/// Does what is asked for, of which `evidence` is the beginning, tells of its end, and gives the
-/// exit status. `watch` is told how far an evaluation is.
-pub fn obey<H: Files, R: Read, W: Write, E: Write + Audience, V: Watch + Drop>(
+/// Runs the program on its arguments, without the program's name, and returns the exit status.
+/// Files are opened by `rt`. Without arguments, it evaluates the specification on `input`.
+pub fn program<H: Files, R: Read, W: Write, E: Write + Screen>(
     rt: &H,
-    evidence: &mut Evidence<'_>,
+    alloc: Global,
+    words: &[&str],
     input: &mut R,
     out: &mut W,
     err: &mut E,
-    watch: V,
 ) -> u8 {
-    evidence.is_curious |= err.is_curious();
-    let mut out = Watched::new(out, evidence.invocation.has_outcome);
-    let end = attempt(rt, evidence, input, &mut out, err, watch);
-    evidence.note_output(out.finish());
-    conclude(end, evidence, err)
-}
-
-/// Does what is asked for. `watch` is told how far an evaluation is.
-fn attempt<H: Files, R: Read, W: Write, E: Write, V: Watch + Drop>(
-    rt: &H,
-    evidence: &mut Evidence<'_>,
-    input: &mut R,
-    out: &mut W,
-    err: &mut E,
-    watch: V,
-) -> Result<Outcome, RunDepthFault> {
-    match evidence.invocation.request {
-        Request::Eval { options, .. } => {
-            let profiler = Profile::new(evidence.alloc, options.profile, err);
-            let observer = Observer { watch, profiler };
-            evaluate_observed(rt, options, observer, input, out, evidence).map(Outcome::from)
-        }
-        _ => perform(rt, input, out, err, evidence),
+    match read_words(alloc, words, out, err) {
+        Asked::Run(invocation) => answer(rt, &invocation, input, out, err, alloc),
+        Asked::End(status) => status,
     }
 }
 
-/// Tells of a run's end, and gives its status.
-fn conclude<E: Write>(
-    end: Result<Outcome, RunDepthFault>,
-    evidence: &Evidence<'_>,
+/// Runs the requested command, and returns the exit status.
+fn answer<H: Files, R: Read, W: Write, E: Write + Screen>(
+    rt: &H,
+    invocation: &Invocation<'_>,
+    input: &mut R,
+    out: &mut W,
     err: &mut E,
+    alloc: Global,
 ) -> u8 {
-    let status = tell_end(end, err);
+    let mut evidence = Evidence::new(alloc, &*invocation);
+    let mut typed = Typed::new(input, invocation, err.prompts());
+    answer_from(rt, &mut typed, out, err, &mut evidence)
+}
+
+/// Runs a command on these files and this standard input, and returns the exit status.
+fn answer_from<H: Files, R: Read, W: Write, E: Write + Screen>(
+    rt: &H,
+    input: &mut R,
+    out: &mut W,
+    err: &mut E,
+    evidence: &mut Evidence<'_>,
+) -> u8 {
+    obey(&mut Sources { rt: &*rt, input }, out, err, evidence)
+}
+
+/// Runs a command, records in `evidence` what explanations need, reports how it ended, and returns
+/// the exit status.
+fn obey<H: Files, R: Read, W: Write, E: Write + Screen>(
+    sources: &mut Sources<'_, H, R>,
+    out: &mut W,
+    err: &mut E,
+    evidence: &mut Evidence<'_>,
+) -> u8 {
+    evidence.is_curious |= err.is_curious();
+    evidence.look = err.look();
+    let mut out = RecordedWriter::new(out);
+    let end = perform(sources, &mut out, err, evidence);
+    evidence.note_write(out.finish());
+    conclude(end, evidence, err)
+}
+
+/// Reports how a run ended, and returns its exit status.
+fn conclude<E: Write>(end: Result<Outcome, RunFault>, evidence: &Evidence<'_>, err: &mut E) -> u8 {
+    let is_quiet = matches!(end, Err(RunFault::Write)) && evidence.is_quiet();
+    let status = tell_end(end, is_quiet, err);
     if evidence.is_curious {
         let _ = evidence.explain(end, err);
     }
@@ -77,93 +99,80 @@ fn conclude<E: Write>(
     }
 }
 
-/// Tells of the calls in values. Lines that cannot be written are left out.
+/// Writes the stuck calls in results. Lines that cannot be written are dropped.
 fn tell_calls<E: Write>(evidence: &Evidence<'_>, err: &mut E) {
     let _ = err.write_all(evidence.calls.as_slice());
 }
 
-/// The status where it is to tell of the calls in values. There is nothing to tell where that was
-/// not asked for.
+/// Returns the exit status, which is 5 if a successful run with `--stuck` found stuck calls.
 fn calls_status(status: u8, evidence: &Evidence<'_>) -> u8 {
     eval_status(status, !evidence.calls.is_empty())
 }
 
-/// The status where it is to tell what came of the run.
+/// Returns the exit status that `--test` or `--limit-status` request.
 fn outcome_status(status: u8, evidence: &Evidence<'_>) -> u8 {
     match evidence.invocation.request {
-        Request::Match { .. } => match_status(status, evidence.output.first == Some(b'y')),
+        Request::Match { .. } => match_status(status, evidence.is_match),
         _ => {
-            let status = eval_status(status, evidence.output.has_mark);
+            let status = eval_status(status, evidence.limit_lines > 0);
             calls_status(status, evidence)
         }
     }
 }
 
-/// Does what is asked for but an evaluation without a trace.
-fn perform<H: Files, R: Read, W: Write, E: Write>(
-    rt: &H,
-    input: &mut R,
+/// Runs a command. `err` receives the messages during the run.
+fn perform<H: Files, R: Read, W: Write, E: Write + Screen>(
+    sources: &mut Sources<'_, H, R>,
     out: &mut W,
     err: &mut E,
     evidence: &mut Evidence<'_>,
-) -> Result<Outcome, RunDepthFault> {
+) -> Result<Outcome, RunFault> {
     match evidence.invocation.request {
-        Request::Trace { options, shown, .. } => {
-            let mut firings = Firings { options, shown };
-            evaluate(rt, &mut firings, input, out, evidence).map(Outcome::from)
-        }
-        Request::Check { is_strict } => {
-            check(rt, is_strict, input, out, evidence).map_err(RunDepthFault::Run)
-        }
-        _ => outcome_of(run_request(rt, input, out, err, evidence)),
+        Request::Check { options } => check(sources, options, out, evidence),
+        Request::Uses { at, .. } => list_uses(sources.rt, at, sources.input, out, evidence),
+        Request::Join => join(sources, out, evidence),
+        _ => run_request(sources, out, err, evidence).map(Outcome::from),
     }
 }
 
-/// What came of a run in which no calls wait.
-fn outcome_of(end: Result<Ending, RunFault>) -> Result<Outcome, RunDepthFault> {
-    match end {
-        Ok(ending) => Ok(Outcome::from(ending)),
-        Err(fault) => Err(RunDepthFault::Run(fault)),
-    }
-}
-
-/// Does what is asked for but an evaluation or a check, on the files that it names. What is told
-/// while it goes on is written to `err`.
-fn run_request<H: Files, R: Read, W: Write, E: Write>(
-    rt: &H,
-    input: &mut R,
+/// Runs any command except `check`, `uses` and `join`.
+fn run_request<H: Files, R: Read, W: Write, E: Write + Screen>(
+    sources: &mut Sources<'_, H, R>,
     out: &mut W,
     err: &mut E,
     evidence: &mut Evidence<'_>,
 ) -> Result<Ending, RunFault> {
     match evidence.invocation.request {
+        Request::Eval { options, .. } => evaluate_observed(sources, options, out, err, evidence),
+        Request::Trace { options, shown, .. } => {
+            evaluate(sources, &mut Firings { options, shown }, out, evidence)
+        }
+        Request::Serve { options, .. } => serve(sources, options, out, err, evidence),
         Request::Make { pattern, args } => {
             make_term(evidence.alloc, pattern.as_bytes(), args.as_bytes(), out)
         }
-        Request::Serve { options, .. } => serve(rt, options, input, out, err, evidence),
-        _ => run_on_file(rt, input, out, evidence),
+        _ => run_on_file(sources, out, evidence),
     }
 }
 
-/// The run over a file or the standard input.
+/// Runs a command on a file or on standard input.
 fn run_on_file<H: Files, R: Read, W: Write>(
-    rt: &H,
-    input: &mut R,
+    sources: &mut Sources<'_, H, R>,
     out: &mut W,
     evidence: &mut Evidence<'_>,
 ) -> Result<Ending, RunFault> {
-    let mut file = evidence.open_first(rt, input, Source::Term)?;
+    let mut file = evidence.open_first(sources.rt, sources.input, Source::Term)?;
     let mut text = evidence.record(&mut file);
     let end = run_on_text(&mut text, out, evidence);
     evidence.keep_first(text, Source::Term);
     end
 }
 
-/// The run over a text that is asked for.
+/// Runs a command on a text.
 fn run_on_text<R: Read, W: Write>(
     text: &mut R,
     out: &mut W,
-    evidence: &Evidence<'_>,
+    evidence: &mut Evidence<'_>,
 ) -> Result<Ending, RunFault> {
     let alloc = evidence.alloc;
     match evidence.invocation.request {
@@ -171,91 +180,112 @@ fn run_on_text<R: Read, W: Write>(
         Request::Share {
             nodes: Some(nodes),
             ..
-        } => look::end_of(run_share_dot(alloc, text, nodes, out)),
-        Request::Match { pattern, .. } => match_term(alloc, pattern.as_bytes(), text, out),
+        } => run_share_dot(alloc, text, nodes, out),
+        Request::Match { pattern, .. } => {
+            let report = match_term(alloc, pattern.as_bytes(), text, out)?;
+            evidence.is_match = report.matched;
+            Ok(report.ending)
+        }
         Request::Aterm {
             indent: Some(indent),
             ..
-        } => look::end_of(run_aterm_indented(alloc, text, indent, out)),
+        } => run_aterm_indented(alloc, text, indent, out),
         _ => print_term(alloc, text, out),
     }
 }
 
-/// Evaluates a specification and given terms as these options say, tells an observer of it, and
-/// notes what there is to tell of the calls in values, where that is asked for.
-fn evaluate_observed<H: Files, R: Read, W: Write, V: Watch + Drop, P: Profiler + Drop>(
-    rt: &H,
+/// Evaluates a specification and input terms with these options, and records the stuck calls with
+/// `--stuck`. `err` receives the progress and the profile.
+fn evaluate_observed<H: Files, R: Read, W: Write, E: Write + Screen>(
+    sources: &mut Sources<'_, H, R>,
     options: EvalOptions,
-    observer: Observer<V, P>,
-    input: &mut R,
     out: &mut W,
+    err: &mut E,
     evidence: &mut Evidence<'_>,
-) -> Result<Ending, RunDepthFault> {
+) -> Result<Ending, RunFault> {
+    let watch = err.progress(&evidence.invocation.request);
+    let profiler = Profile::new(evidence.alloc, options.profile, err);
     if options.stuck {
-        let report = StuckReport::new(evidence.alloc, observer);
-        let mut calls = Calls { options, report };
-        let end = evaluate(rt, &mut calls, input, out, evidence);
-        evidence.calls = calls.report.lines;
+        let reporter = StuckReport::new(evidence.alloc);
+        let observer = Observer {
+            watch,
+            profiler,
+            reporter,
+        };
+        let mut calls = Calls { options, observer };
+        let end = evaluate(sources, &mut calls, out, evidence);
+        let Observer { reporter, .. } = calls.observer;
+        evidence.calls = reporter.lines;
         end
     } else {
-        let mut values = Values { options, observer };
-        evaluate(rt, &mut values, input, out, evidence)
+        let reporter = Unwatched;
+        let observer = Observer {
+            watch,
+            profiler,
+            reporter,
+        };
+        evaluate(sources, &mut Values { options, observer }, out, evidence)
     }
 }
 
-/// Evaluates a specification, and the terms that are given beside it.
+/// Evaluates a specification and its input terms, and records the number of limit lines.
 fn evaluate<H: Files, R: Read, W: Write, K: Work>(
-    rt: &H,
+    sources: &mut Sources<'_, H, R>,
     work: &mut K,
-    input: &mut R,
     out: &mut W,
     evidence: &mut Evidence<'_>,
-) -> Result<Ending, RunDepthFault> {
-    if evidence.invocation.request.terms_path() == Some(STANDARD_INPUT) {
-        evaluate_on_input(rt, work, input, out, evidence)
+) -> Result<Ending, RunFault> {
+    let end = if !evidence.invocation.joined.is_empty() {
+        evaluate_joined(sources, work, out, evidence)
+    } else if evidence.invocation.request.terms_path() == Some(STANDARD_INPUT) {
+        evaluate_on_input(sources, work, out, evidence)
     } else {
-        evaluate_on_files(rt, work, input, out, evidence)
-    }
+        evaluate_on_files(sources, work, out, evidence)
+    };
+    let RunReport {
+        ending,
+        limit_lines,
+    } = end?;
+    evidence.limit_lines = limit_lines;
+    Ok(ending)
 }
 
-/// Evaluates a specification in a file, and given terms on the standard input.
+/// Evaluates a specification in a file with input terms on standard input.
 fn evaluate_on_input<H: Files, R: Read, W: Write, K: Work>(
-    rt: &H,
+    sources: &mut Sources<'_, H, R>,
     work: &mut K,
-    input: &mut R,
     out: &mut W,
     evidence: &mut Evidence<'_>,
-) -> Result<Ending, RunDepthFault> {
-    let mut file = evidence.open_spec(rt)?;
+) -> Result<RunReport, RunFault> {
+    let mut file = evidence.open_spec(sources.rt)?;
     let mut spec = evidence.record(&mut file);
-    let end = evaluate_beside(work, &mut spec, input, out, evidence);
+    let end = evaluate_beside(work, &mut spec, sources.input, out, evidence);
     evidence.keep_first(spec, Source::Spec);
     end
 }
 
-/// Evaluates a specification in a file or on the standard input, and given terms from elsewhere.
+/// Evaluates a specification in a file or on standard input, with input terms from another source.
 fn evaluate_on_files<H: Files, R: Read, W: Write, K: Work>(
-    rt: &H,
+    sources: &mut Sources<'_, H, R>,
     work: &mut K,
-    input: &mut R,
     out: &mut W,
     evidence: &mut Evidence<'_>,
-) -> Result<Ending, RunDepthFault> {
-    let mut file = evidence.open_first(rt, input, Source::Spec)?;
+) -> Result<RunReport, RunFault> {
+    let mut file = evidence.open_first(sources.rt, sources.input, Source::Spec)?;
     let mut spec = evidence.record(&mut file);
-    let end = evaluate_text(rt, work, &mut spec, out, evidence);
+    let end = evaluate_text(sources.rt, work, &mut spec, out, evidence);
     evidence.keep_first(spec, Source::Spec);
     end
 }
 
-/// Evaluates the text of a specification, and the terms that are given beside it.
-fn evaluate_text<H: Files, R: Read, W: Write, K: Work>(
+/// Evaluates the text of a specification and its input terms.
+pub fn evaluate_text<H: Files, R: Read, W: Write, K: Work>(
     rt: &H,
     work: &mut K,
     spec: &mut R,
     out: &mut W,
     evidence: &mut Evidence<'_>,
-) -> Result<Ending, RunDepthFault> {
+) -> Result<RunReport, RunFault> {
     if evidence.invocation.given.is_empty() {
         evaluate_given_file(rt, work, spec, out, evidence)
     } else {
@@ -263,56 +293,45 @@ fn evaluate_text<H: Files, R: Read, W: Write, K: Work>(
     }
 }
 
-/// Evaluates a specification and the terms of a file, where one is given.
+/// Evaluates a specification and the input terms of a file, if one is named.
 fn evaluate_given_file<H: Files, R: Read, W: Write, K: Work>(
     rt: &H,
     work: &mut K,
     spec: &mut R,
     out: &mut W,
     evidence: &mut Evidence<'_>,
-) -> Result<Ending, RunDepthFault> {
+) -> Result<RunReport, RunFault> {
     let path = evidence.invocation.request.terms_path();
     let name = evidence.name_of(Source::Terms);
-    let mut terms = evidence.note_open(open_given(rt, path), name)?;
-    evaluate_with(work, spec, terms.as_mut(), out, evidence)
+    match evidence.note_open(open_given(rt, path), name)? {
+        Some(mut terms) => evaluate_beside(work, spec, &mut terms, out, evidence),
+        None => work.run(evidence.alloc, spec, &mut NoTerms, out),
+    }
 }
 
-/// Evaluates a specification and the terms that stand among the words.
+/// Evaluates a specification and the input terms given with `-e`.
 fn evaluate_words<R: Read, W: Write, K: Work>(
     work: &mut K,
     spec: &mut R,
     out: &mut W,
     evidence: &mut Evidence<'_>,
-) -> Result<Ending, RunDepthFault> {
+) -> Result<RunReport, RunFault> {
     let given = given_by(evidence.alloc, evidence.invocation.given.as_slice())?;
-    let ending = evaluate_beside(work, spec, &mut given.text(), out, evidence)?;
-    Ok(evidence.note_word(ending, &given))
+    let report = evaluate_beside(work, spec, &mut given.text(), out, evidence)?;
+    let ending = evidence.note_word(report.ending, &given);
+    Ok(RunReport { ending, ..report })
 }
 
-/// Evaluates a specification and given terms, where there are any.
-fn evaluate_with<R: Read, T: Read, W: Write, K: Work>(
-    work: &mut K,
-    spec: &mut R,
-    terms: Option<&mut T>,
-    out: &mut W,
-    evidence: &mut Evidence<'_>,
-) -> Result<Ending, RunDepthFault> {
-    match terms {
-        Some(terms) => evaluate_beside(work, spec, terms, out, evidence),
-        None => work.run(evidence.alloc, spec, None::<&mut &[u8]>, out),
-    }
-}
-
-/// Evaluates a specification and given terms, whose text is kept for an explanation.
-fn evaluate_beside<R: Read, T: Read, W: Write, K: Work>(
+/// Evaluates a specification and input terms, and records both texts for an explanation.
+pub fn evaluate_beside<R: Read, T: Read, W: Write, K: Work>(
     work: &mut K,
     spec: &mut R,
     terms: &mut T,
     out: &mut W,
     evidence: &mut Evidence<'_>,
-) -> Result<Ending, RunDepthFault> {
+) -> Result<RunReport, RunFault> {
     let mut terms = evidence.record(terms);
-    let end = work.run(evidence.alloc, spec, Some(&mut terms), out);
+    let end = work.run(evidence.alloc, spec, &mut Input::new(&mut terms), out);
     evidence.keep_second(terms);
     end
 }

@@ -1,54 +1,66 @@
-//! How far a term is whose evaluation takes long, on standard error.
+//! The progress line of long evaluations.
 
 use std::alloc::Global;
 use std::io::Write;
 use std::time::{Clock, Duration};
 use std::{fmt, io};
 
-/// For how many milliseconds terms are evaluated before anything is shown.
+/// The time before the first line of a term, in milliseconds.
 const PATIENCE: u64 = 1000;
 
-/// How many milliseconds there are between two lines at least.
+/// The shortest time between two lines, in milliseconds.
 const INTERVAL: u64 = 100;
 
-/// Goes back to the beginning of a line, and wipes it.
+/// Clears the rest of the line.
+const CLEAR: &[u8] = b"\x1b[K";
+
+/// Returns to the start of the line and clears it.
 const WIPE: &[u8] = b"\r\x1b[K";
 
-/// How far a run is, and whether that is shown now.
+/// The progress of a run, and the time of the next line.
 #[derive(Drop)]
 pub struct Progress<'a, C> {
-    /// The allocator of what is shown.
+    /// The allocator of the lines.
     alloc: Global,
     /// The clock.
     clock: &'a C,
-    /// Whether anything is to be shown.
+    /// Whether progress is shown.
     is_asked: bool,
-    /// The most steps that a term may take.
+    /// The step limit of each term.
     steps: u64,
-    /// The number of the term that is evaluated, from 1.
+    /// The number of columns of the terminal.
+    width: usize,
+    /// The number of the term that is being evaluated, from 1.
     term: u64,
-    /// From when on a line is due, by the clock; without a time nothing was told yet.
+    /// The time of the next line. `None` before the first report about a term.
     due: Option<Duration>,
-    /// Whether a line is shown.
+    /// Whether a line is visible.
     is_shown: bool,
 }
 
 impl<'a, C: Clock> Progress<'a, C> {
-    /// No term was evaluated, each of which may take so many steps; all is shown where it is asked
-    /// for.
-    pub fn new(alloc: Global, clock: &'a C, is_asked: bool, steps: u64) -> Progress<'a, C> {
+    /// Returns the state before the first term. `steps` is the step limit of each term, and lines
+    /// are shorter than `width` columns.
+    pub fn new(
+        alloc: Global,
+        clock: &'a C,
+        is_asked: bool,
+        steps: u64,
+        width: usize,
+    ) -> Progress<'a, C> {
         Progress {
             alloc,
             clock,
             is_asked,
             steps,
+            width,
             term: 1,
             due: None,
             is_shown: false,
         }
     }
 
-    /// Shows how far the term is, where that is due. What cannot be shown is left out.
+    /// Shows the progress of the term, if it is time. A line that cannot be shown is dropped.
     pub fn show<E: Write>(&mut self, left: u64, cells: u32, err: &mut E) {
         if self.is_asked && self.is_due() {
             self.is_shown = true;
@@ -56,8 +68,8 @@ impl<'a, C: Clock> Progress<'a, C> {
         }
     }
 
-    /// Whether a line is due; the next one is then due a while later. Where there is no time to be
-    /// told, none is.
+    /// Returns whether it is time for a line, and sets the time of the next one. Without a clock
+    /// reading, it is not.
     fn is_due(&mut self) -> bool {
         let Ok(now) = self.clock.monotonic() else {
             return false;
@@ -76,19 +88,24 @@ impl<'a, C: Clock> Progress<'a, C> {
         }
     }
 
-    /// Writes the line over the one that is shown, and wipes what is left of that.
+    /// Writes the line over the visible one, and clears the rest of that. The last column stays
+    /// free: a terminal that clears after it would clear the last character.
     fn write_line<E: Write>(&self, left: u64, cells: u32, err: &mut E) -> io::Result<()> {
         let term = self.term;
         let spent = Grouped(self.steps.saturating_sub(left));
         let steps = Grouped(self.steps);
         let cells = Grouped(u64::from(cells));
-        let line = format!(in self.alloc;
-            "\rrecw: term {term}: {spent} of {steps} steps, {cells} cells\u{1b}[K"
+        let mut line = Vec::new(self.alloc);
+        write!(
+            line,
+            "\rrecw: term {term}: {spent} of {steps} steps, {cells} cells"
         )?;
-        err.write_all(line.as_bytes())
+        line.truncate(self.width);
+        line.extend_from_slice(CLEAR)?;
+        err.write_all(line.as_slice())
     }
 
-    /// The term is over: what is shown of it is wiped, and the next one is evaluated.
+    /// Ends a term: clears its line. The next term follows.
     pub fn end_term<E: Write>(&mut self, err: &mut E) {
         self.term = self.term.saturating_add(1);
         if self.is_shown {
@@ -98,7 +115,7 @@ impl<'a, C: Clock> Progress<'a, C> {
     }
 }
 
-/// A number that is shown with a comma before each three digits.
+/// A number that is printed with a comma before each group of three digits.
 #[derive(Clone, Copy)]
 struct Grouped(u64);
 
@@ -113,7 +130,7 @@ impl fmt::Display for Grouped {
     }
 }
 
-/// Writes the groups of a number from its first digit on. Nothing is written of zero.
+/// Writes the groups of a number from its first digit on. Writes nothing for zero.
 fn write_groups<W: fmt::Write>(groups: &[u64; 7], f: &mut fmt::Formatter<W>) -> fmt::Result {
     let mut is_begun = false;
     for group in groups {
@@ -127,7 +144,7 @@ fn write_groups<W: fmt::Write>(groups: &[u64; 7], f: &mut fmt::Formatter<W>) -> 
     Ok(())
 }
 
-/// The digits of a number in groups of three, the last of which are its last three.
+/// Returns the digits of a number in groups of three, the last digits last.
 fn groups_of(number: u64) -> [u64; 7] {
     let mut groups = [0; 7];
     let mut rest = number;

@@ -1,18 +1,18 @@
-//! What the standard error says of a run's end, and the exit statuses.
+//! The line on standard error that reports how a run ended, and the exit statuses.
 ghost use Rattle.std.specs.Prelude.{◌≡◌, ◌≢◌, ◌↔◌, ◌⊎◌, IsErr, IsOk, Ok, Err};
 
-use rec_run::{Ending, Refusal, RunDepthFault, RunFault};
 use recw_words::status::{DONE, OUT_OF_ROOM, REFUSED, STREAMS};
+use rx_run::{Ending, Refusal, RunFault};
 use std::io::Write;
 
-/// What came of what was asked for, where nothing failed.
+/// The outcome of a run without a failure.
 #[derive(Clone, Copy)]
 pub enum Outcome {
-    /// All was done.
+    /// The run is done.
     Done,
-    /// A text was refused.
+    /// An input was rejected.
     Refused(Refusal),
-    /// A specification that was checked has something wrong.
+    /// `check` found an error, or a warning with `--strict`.
     Faulty,
 }
 
@@ -25,15 +25,15 @@ impl From<Ending> for Outcome {
     }
 }
 
-/// Tells how what was asked for ended, and gives the status. A line that cannot be written is left
-/// out.
-pub fn tell_end<E: Write>(end: Result<Outcome, RunDepthFault>, err: &mut E) -> u8
+/// Reports how a run ended, but no failure if `is_quiet`, and returns its exit status. A line that
+/// cannot be written is dropped.
+pub fn tell_end<E: Write>(end: Result<Outcome, RunFault>, is_quiet: bool, err: &mut E) -> u8
     ensures done { (result ≡ 0) ↔ (end ≡ Ok Outcome.Done) }
     ensures refused { (result ≡ 1) ↔ (IsOk end × (end ≢ Ok Outcome.Done)) }
-    ensures room { (result ≡ 3) ↔ (IsErr end × ((end ≢ Err (RunDepthFault.Run RunFault.Read))
-        × (end ≢ Err (RunDepthFault.Run RunFault.Write)))) }
-    ensures streams { (result ≡ 4) ↔ ((end ≡ Err (RunDepthFault.Run RunFault.Read))
-        ⊎ (end ≡ Err (RunDepthFault.Run RunFault.Write))) }
+    ensures room { (result ≡ 3) ↔ (IsErr end × ((end ≢ Err RunFault.Read)
+        × (end ≢ Err RunFault.Write))) }
+    ensures streams { (result ≡ 4) ↔ ((end ≡ Err RunFault.Read)
+        ⊎ (end ≡ Err RunFault.Write)) }
 {
     match end {
         Ok(Outcome::Done) => DONE,
@@ -44,21 +44,23 @@ pub fn tell_end<E: Write>(end: Result<Outcome, RunDepthFault>, err: &mut E) -> u
             }
             REFUSED
         }
-        Err(fault) => tell_fault(fault, err),
+        Err(fault) => tell_fault(fault, is_quiet, err),
     }
 }
 
-/// Tells of a fault and gives its status.
-fn tell_fault<E: Write>(fault: RunDepthFault, err: &mut E) -> u8
+/// Reports a failure unless `is_quiet`, and returns its exit status.
+fn tell_fault<E: Write>(fault: RunFault, is_quiet: bool, err: &mut E) -> u8
     ensures either { (result ≡ 3) ⊎ (result ≡ 4) }
-    ensures room { (result ≡ 3) ↔ ((fault ≢ RunDepthFault.Run RunFault.Read)
-        × (fault ≢ RunDepthFault.Run RunFault.Write)) }
-    ensures streams { (result ≡ 4) ↔ ((fault ≡ RunDepthFault.Run RunFault.Read)
-        ⊎ (fault ≡ RunDepthFault.Run RunFault.Write)) }
+    ensures room { (result ≡ 3) ↔ ((fault ≢ RunFault.Read)
+        × (fault ≢ RunFault.Write)) }
+    ensures streams { (result ≡ 4) ↔ ((fault ≡ RunFault.Read)
+        ⊎ (fault ≡ RunFault.Write)) }
 {
-    let _ = writeln!(err, "recw: {fault}");
+    if !is_quiet {
+        let _ = writeln!(err, "recw: {fault}");
+    }
     match fault {
-        RunDepthFault::Run(RunFault::Read | RunFault::Write) => STREAMS,
-        RunDepthFault::Run(_) | RunDepthFault::Deep { .. } => OUT_OF_ROOM,
+        RunFault::Read | RunFault::Write => STREAMS,
+        RunFault::Memory { .. } | RunFault::Room { .. } | RunFault::Deep { .. } => OUT_OF_ROOM,
     }
 }

@@ -1,44 +1,50 @@
-//! Conversations: requests that are answered as they come.
+//! The command `serve`: sessions of requests and responses.
 
 use crate::evidence::Evidence;
 use crate::expected::expected_words;
-use crate::input::open_file;
+use crate::input::{Sources, open_file};
 use crate::options::serve_settings;
 use crate::recorded::Recorded;
-use rec_run::{Ending, Reason, RunFault, Source};
 use rec_serve::{Listener, Refusal, ServeFault, run_serve};
 use rec_sorts::Checked;
 use recw_words::{EvalOptions, NamedRefusal, TextName, Texts, Which, explain_given, explain_place};
+use rx_run::{Ending, Reason, RunFault, Source};
 use rx_text::LONGEST;
 use std::alloc::Global;
 use std::io;
 use std::io::{Read, Write};
 use std::rt::Files;
 
-/// Explains the requests that are refused, where that is asked for.
+/// Explains the requests that are rejected, if that is requested.
 #[derive(Drop)]
 struct Explainer<'a, E> {
-    /// The allocator of what is told.
+    /// The allocator of the explanations.
     alloc: Global,
-    /// What the requests are called.
+    /// The name of the requests.
     path: &'a str,
-    /// Whether they are to be explained.
+    /// Whether errors are explained.
     is_asked: bool,
-    /// Where it is told.
+    /// The output.
     err: &'a mut E,
 }
 
 impl<E: Write> Listener for Explainer<'_, E> {
+    ghost use Rattle.std.specs.Prelude.{[]};
+
+    ghost told = { λ _. [] };
+
+    ghost says = { λ _ _ _. [] };
+
     fn hear_refusal(&mut self, checked: &Checked, number: u64, request: &[u8], refusal: Refusal) {
         if self.is_asked {
-            // A line that cannot be written is left out.
+            // A line that cannot be written is dropped.
             let _ = self.explain(checked, number, request, refusal);
         }
     }
 }
 
 impl<E: Write> Explainer<'_, E> {
-    /// Says what the refusal means, and where it stands.
+    /// Explains the error of a request.
     fn explain(
         &mut self,
         checked: &Checked,
@@ -68,7 +74,7 @@ impl<E: Write> Explainer<'_, E> {
         }
     }
 
-    /// Says what a refusal at a place of a request means, and what may stand there.
+    /// Explains an error with an offset in a request, and the expected tokens.
     fn explain_at(
         &mut self,
         refusal: NamedRefusal<'_>,
@@ -86,22 +92,21 @@ impl<E: Write> Explainer<'_, E> {
     }
 }
 
-/// Answers the requests of a file or of the standard input by a specification from the other.
+/// Answers the requests of a file or of standard input, with a specification from the other.
 pub fn serve<H: Files, R: Read, W: Write, E: Write>(
-    rt: &H,
+    sources: &mut Sources<'_, H, R>,
     options: EvalOptions,
-    input: &mut R,
     out: &mut W,
     err: &mut E,
     evidence: &mut Evidence<'_>,
 ) -> Result<Ending, RunFault> {
     match evidence.invocation.request.requests_path() {
-        Some(_) => serve_file(rt, options, input, out, err, evidence),
-        None => serve_input(rt, options, input, out, err, evidence),
+        Some(_) => serve_file(sources.rt, options, sources.input, out, err, evidence),
+        None => serve_input(sources.rt, options, sources.input, out, err, evidence),
     }
 }
 
-/// Answers the requests of a file by a specification in another or on the standard input.
+/// Answers the requests of a file, with a specification in another file or on standard input.
 fn serve_file<H: Files, R: Read, W: Write, E: Write>(
     rt: &H,
     options: EvalOptions,
@@ -114,7 +119,7 @@ fn serve_file<H: Files, R: Read, W: Write, E: Write>(
     serve_opened(rt, options, &mut spec, out, err, evidence)
 }
 
-/// The same by the text of a specification.
+/// Answers the requests of a file, with the text of a specification.
 fn serve_opened<H: Files, S: Read, W: Write, E: Write>(
     rt: &H,
     options: EvalOptions,
@@ -129,7 +134,7 @@ fn serve_opened<H: Files, S: Read, W: Write, E: Write>(
     serve_on(options, spec, &mut requests, out, err, evidence)
 }
 
-/// Answers the requests of the standard input by a specification in a file.
+/// Answers the requests on standard input, with a specification in a file.
 fn serve_input<H: Files, R: Read, W: Write, E: Write>(
     rt: &H,
     options: EvalOptions,
@@ -142,7 +147,7 @@ fn serve_input<H: Files, R: Read, W: Write, E: Write>(
     serve_on(options, &mut spec, input, out, err, evidence)
 }
 
-/// Answers requests by a specification, whose text is kept for an explanation.
+/// Answers requests, and records the text of the specification for an explanation.
 fn serve_on<S: Read, R: Read, W: Write, E: Write>(
     options: EvalOptions,
     spec: &mut S,
@@ -157,7 +162,7 @@ fn serve_on<S: Read, R: Read, W: Write, E: Write>(
     end
 }
 
-/// Answers requests; those that are refused are explained where that is asked for.
+/// Answers requests, and explains those that are rejected if that is requested.
 fn answer_all<S: Read, R: Read, W: Write, E: Write>(
     options: EvalOptions,
     spec: &mut S,
@@ -181,7 +186,7 @@ fn answer_all<S: Read, R: Read, W: Write, E: Write>(
     end_of(end)
 }
 
-/// The end of a conversation, as that of other runs.
+/// Converts the end of a session to that of other runs.
 fn end_of(end: Result<Ending, ServeFault>) -> Result<Ending, RunFault> {
     match end {
         Ok(ending) => Ok(ending),

@@ -16,7 +16,7 @@ pub struct Shelf {
 }
 
 impl Shelf {
-    /// The text of a file of this name.
+    /// Returns the text of the file with this name.
     fn text_of(&self, path: &str) -> io::Result<&'static str> {
         match path {
             "spec" => Ok(self.spec),
@@ -26,10 +26,10 @@ impl Shelf {
     }
 }
 
-/// What is left of a file in memory.
+/// An open file in memory.
 #[derive(Drop)]
 pub struct Book {
-    /// What was not read yet.
+    /// The text that remains to be read.
     rest: &'static [u8],
 }
 

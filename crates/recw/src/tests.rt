@@ -1,87 +1,90 @@
-//! What the program answers and writes for words and texts, and what its answers are compared with.
+//! Tests of the whole program: arguments and texts in; exit status, standard output and standard
+//! error out.
+//!
+//! Most tests are tables of `Row`s. The modules are: `help` and `refused` (help and usage errors),
+//! `words` and `outcome` (output and exit statuses), `given` and `streams` (sources of input,
+//! failing streams), `explained`, `named`, `hinted`, `shown` and `checked` (explanations), `told`
+//! (progress and profiles), `prompts` (standard input on a terminal), `fields` (options).
 
+mod checked;
 mod explained;
 mod fields;
 mod given;
 mod help;
+mod hinted;
 mod named;
 mod outcome;
+mod prompts;
 mod refused;
 mod shown;
 mod streams;
 mod told;
 mod words;
 
-use crate::evidence::Evidence;
-use crate::program::obey;
+use crate::program::program;
+use crate::screen::{Look, Screen};
 use crate::shelf::Shelf;
 use rec_run::Unwatched;
-use recw_words::{Asked, Audience, Console, Invocation, read_words};
+use recw_words::{Audience, Console, Request};
 use std::alloc::Global;
-use std::io::{Read, Write};
+use std::io::{Read, Sink, Write};
 use std::process::Abort;
 use std::rt::Files;
 
-/// A specification that adds one and two.
+/// A specification that adds two and one.
 pub(crate) const ADDITION: &str =
     "REC-SPEC Add SORTS Nat CONS z : -> Nat s : Nat -> Nat OPNS plus : Nat Nat -> Nat \
      VARS X Y : Nat RULES plus(z,Y) -> Y plus(s(X),Y) -> s(plus(X,Y)) \
      EVAL plus(s(s(z)),s(z)) END-SPEC";
 
-/// What the program left.
+/// The results of a run of the program.
 #[derive(Drop)]
 pub(crate) struct Ran {
     /// The exit status.
     status: u8,
-    /// What it wrote on the standard output.
+    /// Its standard output.
     out: Vec<u8>,
-    /// What it wrote on the standard error.
+    /// Its standard error.
     err: Vec<u8>,
 }
 
 impl Ran {
-    /// The standard output as a text.
+    /// Returns the standard output as a text.
     pub(crate) fn out(&self) -> &str {
         text_of(self.out.as_slice())
     }
 
-    /// The standard error as a text.
+    /// Returns the standard error as a text.
     pub(crate) fn err(&self) -> &str {
         text_of(self.err.as_slice())
     }
 }
 
-/// An output as a text.
+/// Returns an output as a text.
 fn text_of(bytes: &[u8]) -> &str {
     str::from_utf8(bytes).unwrap_or("(not UTF-8)")
 }
 
-/// Does what words ask before nobody, and gives the exit status.
-pub(crate) fn program<H: Files, R: Read, W: Write, E: Write + Audience>(
-    files: &H,
-    alloc: Global,
-    words: &[&str],
-    input: &mut R,
-    out: &mut W,
-    err: &mut E,
-) -> u8 {
-    match read_words(alloc, words, out, err) {
-        Asked::Run(invocation) => answer(files, alloc, &invocation, input, out, err),
-        Asked::End(status) => status,
-    }
-}
+impl<W: Write> Screen for Console<W> {
+    type Progress = Unwatched;
 
-/// Does what is asked for before nobody, and gives the exit status.
-fn answer<H: Files, R: Read, W: Write, E: Write + Audience>(
-    files: &H,
-    alloc: Global,
-    invocation: &Invocation<'_>,
-    input: &mut R,
-    out: &mut W,
-    err: &mut E,
-) -> u8 {
-    let mut evidence = Evidence::new(alloc, invocation);
-    obey(files, &mut evidence, input, out, err, Unwatched)
+    /// Both outputs are one terminal, or none.
+    fn look(&self) -> Look {
+        Look {
+            is_terminal: self.is_curious(),
+            has_colours: self.is_curious(),
+        }
+    }
+
+    fn progress(&self, _request: &Request<'_>) -> Unwatched {
+        Unwatched
+    }
+
+    type Prompts = Sink;
+
+    fn prompts(&self) -> Option<Sink> {
+        None
+    }
 }
 
 /// Runs the program with this text as its standard input.
@@ -99,7 +102,7 @@ pub(crate) fn run_over<H: Files, R: Read>(
     run_before(files, alloc, words, input, false)
 }
 
-/// The same before somebody who reads standard error, or nobody.
+/// Runs the program with standard error that is a terminal, or not.
 pub(crate) fn run_before<H: Files, R: Read>(
     files: &H,
     alloc: Global,
@@ -114,7 +117,7 @@ pub(crate) fn run_before<H: Files, R: Read>(
     Ran { status, out, err }
 }
 
-/// The words, the standard input, the status and the two outputs.
+/// A test case: the arguments, the standard input, the status and the two outputs.
 pub(crate) type Row = (
     &'static [&'static str],
     &'static str,
@@ -123,28 +126,29 @@ pub(crate) type Row = (
     &'static str,
 );
 
-/// The program left what the row says.
+/// Compares the results of a run with a test case.
 pub(crate) fn leaves(rt: &impl Abort, row: &Row, ran: &Ran) {
     let (words, _, status, out, err) = *row;
     let as_said = ran.status == status && ran.out() == out && ran.err() == err;
     assert!(rt; as_said, "{words:?}: {}{}", ran.out(), ran.err());
 }
 
-/// The program leaves what the rows say, with their texts as its standard input.
+/// Runs the program for each test case, with its text as standard input.
 fn all_leave<H: Abort + Files>(rt: &H, alloc: Global, rows: &[Row]) {
     for row in rows {
         leaves(rt, row, &run(rt, alloc, row.0, row.1));
     }
 }
 
-/// The rows whose texts come from the standard input.
-const TABLES: [&[Row]; 8] = [
+/// The test cases with texts on standard input.
+const TABLES: [&[Row]; 9] = [
     help::HELPS,
     words::STATUSES,
     words::TRACES,
     words::TERMS,
     words::PATTERNS,
     explained::INPUTS,
+    checked::FORMS,
     given::WORDS,
     outcome::STATUSES,
 ];
@@ -156,14 +160,14 @@ fn answers_and_writes(rt: HostRuntime) {
     }
 }
 
-/// The program leaves what the rows say, on these files.
+/// Runs the program for each test case, on these files.
 fn all_leave_on(rt: &impl Abort, alloc: Global, files: &Shelf, rows: &[Row]) {
     for row in rows {
         leaves(rt, row, &streams::run_on(files, alloc, row.0));
     }
 }
 
-/// The rows whose texts come from files.
+/// The test cases with texts in files.
 const SHELVES: [(Shelf, &[Row]); 3] = [
     (streams::FILES, streams::NAMED),
     (explained::REFUSED, explained::EXPLAINED),

@@ -1,87 +1,88 @@
-//! What is done with terms that are evaluated.
+//! The kinds of runs over a specification and input terms.
 
 use crate::options::{run_settings, trace_options};
 use rec_look::run_trace;
-use rec_run::{Ending, Observer, Profiler, RunDepthFault, Watch, run_observed};
+use rec_run::{InputTerms, Observer, Profiler, RunReport, Unwatched, Watch, run_given};
 use rec_stuck::{StuckReport, run_stuck};
 use recw_words::{EvalOptions, Shown};
+use rx_run::RunFault;
 use std::alloc::Global;
 use std::io::{Read, Write};
 
-/// What is done with the terms of a specification, and with given ones.
+/// A run over a specification and input terms.
 pub trait Work {
-    /// Does it over the texts of both.
-    fn run<R: Read, T: Read, W: Write>(
+    /// Runs over the texts of both.
+    fn run<R: Read, G: InputTerms, W: Write>(
         &mut self,
         alloc: Global,
         spec: &mut R,
-        terms: Option<&mut T>,
+        terms: &mut G,
         out: &mut W,
-    ) -> Result<Ending, RunDepthFault>;
+    ) -> Result<RunReport, RunFault>;
 }
 
-/// Tells their values, and an observer how far they are and what they took.
+/// Writes the results.
 #[derive(Drop)]
 pub struct Values<V, P> {
-    /// How they are evaluated.
+    /// The options of the evaluation.
     pub options: EvalOptions,
-    /// Who is told.
-    pub observer: Observer<V, P>,
+    /// The observer of the run.
+    pub observer: Observer<V, P, Unwatched>,
 }
 
 impl<V: Watch, P: Profiler> Work for Values<V, P> {
-    fn run<R: Read, T: Read, W: Write>(
+    fn run<R: Read, G: InputTerms, W: Write>(
         &mut self,
         alloc: Global,
         spec: &mut R,
-        terms: Option<&mut T>,
+        terms: &mut G,
         out: &mut W,
-    ) -> Result<Ending, RunDepthFault> {
+    ) -> Result<RunReport, RunFault> {
         let settings = run_settings(self.options);
-        run_observed(alloc, spec, terms, out, settings, &mut self.observer)
+        run_given(alloc, spec, terms, out, settings, &mut self.observer)
     }
 }
 
-/// The same, and keeps what there is to tell of the calls that the values hold.
+/// Writes the results, and reports the stuck calls in them.
 #[derive(Drop)]
 pub struct Calls<V, P> {
-    /// How they are evaluated.
+    /// The options of the evaluation.
     pub options: EvalOptions,
-    /// Who is told, and what is kept.
-    pub report: StuckReport<V, P>,
+    /// The observer of the run.
+    pub observer: Observer<V, P, StuckReport>,
 }
 
 impl<V: Watch, P: Profiler> Work for Calls<V, P> {
-    fn run<R: Read, T: Read, W: Write>(
+    fn run<R: Read, G: InputTerms, W: Write>(
         &mut self,
         alloc: Global,
         spec: &mut R,
-        terms: Option<&mut T>,
+        terms: &mut G,
         out: &mut W,
-    ) -> Result<Ending, RunDepthFault> {
+    ) -> Result<RunReport, RunFault> {
         let settings = run_settings(self.options);
-        run_stuck(alloc, spec, terms, out, settings, &mut self.report)
+        run_stuck(alloc, spec, terms, out, settings, &mut self.observer)
     }
 }
 
-/// Tells the rules that fire, and their values.
+/// Writes the rewrites, and the results.
 #[derive(Clone, Copy, Drop)]
 pub struct Firings<'a> {
-    /// How they are evaluated.
+    /// The options of the evaluation.
     pub options: EvalOptions,
-    /// What is shown.
+    /// The options of the trace.
     pub shown: Shown<'a>,
 }
 
 impl Work for Firings<'_> {
-    fn run<R: Read, T: Read, W: Write>(
+    fn run<R: Read, G: InputTerms, W: Write>(
         &mut self,
         alloc: Global,
         spec: &mut R,
-        terms: Option<&mut T>,
+        terms: &mut G,
         out: &mut W,
-    ) -> Result<Ending, RunDepthFault> {
+    ) -> Result<RunReport, RunFault> {
         let options = trace_options(self.options, self.shown);
-        run_trace(alloc, spec, terms, out, options).map_err(RunDepthFault::Run)
+        run_trace(alloc, spec, terms, out, options)
     }
 }

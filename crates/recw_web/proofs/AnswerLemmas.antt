@@ -1,25 +1,33 @@
 -- What the host is answered, by what was handed over.
-use Rattle.std.proofs.Common.{◌≡◌, ◌^◌, refl, Bool, ℕ, List, [], Option, Some, None, Result, Ok, Err, IfOk, IfErr, OnOk, length, min, ap, subst, ◌∙◌, arith}
+use Rattle.std.proofs.Common.{◌≡◌, ◌^◌, refl, Bool, ℕ, List, [], Option, Some, None, Result, Ok, Err, IfOk, IfErr, OnOk, length, min, ap, subst, sym, ◌∙◌, ◌<◌, arith}
 use Rattle.rx_run.specs.Due.{Due}
 use Rattle.rx_run.specs.Refusals.{finish_of, place_of}
 use Rattle.rx_run.specs.Run.{Concludes, Ends, IsPlaced}
 use Rattle.rx_run.specs.declared.ending.Finish.{Finish}
 use Rattle.rx_run.specs.declared.ending.Place.{Place}
 use Rattle.rx_run.specs.declared.ending.RunFault.{RunFault}
+use Rattle.rx_run.specs.declared.ending.RunFault.TheVariants as fault
 use Rattle.rx_run.specs.declared.refusal.Ending.{Ending}
 use Rattle.rx_run.proofs.WholeRunLemmas.{ends_with, placed_with}
-use Rattle.rec_run.specs.Output.{IsDue, bare}
+use Rattle.rec_run.specs.Output.{IsDue}
 use Rattle.rec_run.specs.Run.{Texts}
 use Rattle.rec_check.specs.Runs.{Tells}
 use Rattle.rec_check.specs.declared.runs.Judgement.{Judgement}
-use Rattle.rx_look.specs.Faults.{fault_of_run}
-use Rattle.rx_look.specs.declared.ending.LookFault.{LookFault}
+use Rattle.rx_run.specs.declared.pattern.matching.MatchReport.{MatchReport}
 use Rattle.rec_look.specs.Traces.{IsTraceDueFor, Shown}
-use Rattle.recw_web.specs.Answers.{Answers, IsCheckDue, IsEvalDue, IsTraceAsked, checked, judged_finish, shown_as}
-use Rattle.recw_web.specs.Inner.Handing.{IsHanded, IsWithheld}
+use Rattle.recw_web.specs.Answers.{Answers, IsCheckDue, IsEvalDue, IsTraceAsked, checked, judged_finish, page_lines, shown_as}
+use Rattle.recw_web.specs.Inner.Handing.{IsHanded, IsWithheld, fault_number}
 use Rattle.recw_web.specs.declared.options.Options.{Options}
 use Rattle.recw_web.specs.declared.options.TraceOptions.{TraceOptions}
 use Rattle.recw_web.specs.declared.told.Told.{Told}
+
+-- a fault has one of the numbers 3 and 4
+number_bounds : (fault : RunFault) → (2 < fault_number fault) × (fault_number fault < 5)
+number_bounds (fault.Memory lines) = (omega arith, omega arith)
+number_bounds (fault.Room lines) = (omega arith, omega arith)
+number_bounds (fault.Deep lines) = (omega arith, omega arith)
+number_bounds fault.Read = (omega arith, omega arith)
+number_bounds fault.Write = (omega arith, omega arith)
 
 module _ (IsDue : Due → Type 0) (lines : List ℕ) (place : Option Place) (status : ℕ) (told : Told) (old new : List ℕ) where
   -- the run ended
@@ -32,52 +40,48 @@ module _ (IsDue : Due → Type 0) (lines : List ℕ) (place : Option Place) (sta
         placed = λ s. record { place = place; is_placed = p; is_told = h.placed };
         short = λ s. record { due = e.due; is_due = e.is_due; wanted = h.long ∙ ap length e.written; short = h.short s };
         kept = h.kept;
+        untold = λ s. let k = h.known in absurd (omega (arith, k, s));
         known = let k = h.known in omega (arith, k);
       }
 
   -- the run met a fault
-  answers_withheld : IsWithheld status old new → Answers IsDue status told old new
-  answers_withheld w =
-      let least = w.least in
+  answers_withheld : (fault : RunFault) → IsWithheld fault status told old new → Answers IsDue status told old new
+  answers_withheld fault w =
+      let bounds = number_bounds fault in
+      let least : 2 < status = subst (λ n. 2 < n) (sym w.numbered) bounds.0 in
       record {
         done = λ s. absurd (omega (arith, least, s));
         refused = λ s. absurd (omega (arith, least, s));
         placed = λ s. absurd (omega (arith, least, s));
         short = λ s. absurd (omega (arith, least, s));
         kept = λ s. w.kept;
-        known = w.known;
+        untold = λ s. w.untold;
+        known = subst (λ n. n < 5) (sym w.numbered) bounds.1;
       }
-
-  -- by how the run ended, which wrote behind nothing
-  pub answers_by : (end : Result Finish RunFault) (before : List ℕ) → before ≡ [] → IfOk end (λ f. IsHanded f lines place status told old new)
-      → IfErr end (λ f. IsWithheld status old new) → IfOk end (λ f. Ends IsDue f (Some before) (Some lines)) → OnOk end (IsPlaced IsDue place)
-      → Answers IsDue status told old new
-  answers_by (Ok finish) before b h w e p = answers_handed finish h (subst (λ z. Ends IsDue finish (Some z) (Some lines)) b e) p
-  answers_by (Err fault) before b h w e p = answers_withheld w
 
 -- the same where the run answers the refusal
 pub answers_ended : (IsDue : Due → Type 0) (lines : List ℕ) (status : ℕ) (told : Told) (old new : List ℕ) (end : Result Ending RunFault)
     (before : List ℕ) → before ≡ [] → IfOk end (λ e. IsHanded (finish_of e) lines (place_of e) status told old new)
-    → IfErr end (λ f. IsWithheld status old new) → IfOk end (λ e. Concludes IsDue e (Some before) (Some lines)) → Answers IsDue status told old new
+    → IfErr end (λ f. IsWithheld f status told old new) → IfOk end (λ e. Concludes IsDue e (Some before) (Some lines)) → Answers IsDue status told old new
 answers_ended IsDue lines status told old new (Ok ending) before b h w e =
     let c = subst (λ z. Concludes IsDue ending (Some z) (Some lines)) b e in
     answers_handed IsDue lines (place_of ending) status told old new (finish_of ending) h (ends_with IsDue ending (Some []) (Some lines) c)
     (placed_with IsDue ending (Some []) (Some lines) c)
-answers_ended IsDue lines status told old new (Err fault) before b h w e = answers_withheld IsDue lines None status told old new w
+answers_ended IsDue lines status told old new (Err fault) before b h w e = answers_withheld IsDue lines None status told old new fault w
 
 -- the run's limits are those that were asked for
 pub answers_asked : (asked : Options) (count : Bool) (steps : ℕ) (spec : List ℕ) (terms : Option (List ℕ)) (status : ℕ) (told : Told)
-    (old new : List ℕ) → steps ≡ min asked.steps (10 ^ 18) → count ≡ asked.count → Answers (IsDue spec terms (bare count) steps) status told old new
+    (old new : List ℕ) → steps ≡ min asked.steps (10 ^ 18) → count ≡ asked.count → Answers (IsDue spec terms (page_lines count) steps) status told old new
     → Answers (IsEvalDue asked spec terms) status told old new
 answers_asked asked count steps spec terms status told old new e f h =
-    subst (λ n. Answers (IsDue spec terms (bare asked.count) n) status told old new) e
-    (subst (λ b. Answers (IsDue spec terms (bare b) steps) status told old new) f h)
+    subst (λ n. Answers (IsDue spec terms (page_lines asked.count) n) status told old new) e
+    (subst (λ b. Answers (IsDue spec terms (page_lines b) steps) status told old new) f h)
 
 -- a check ended so, or met a fault, and is handed over as a run that does
 pub answers_checked : (name spec lines : List ℕ) (judged : Result Judgement RunFault) (end : Result Finish RunFault) (status : ℕ) (told : Told)
     (old new before : List ℕ) → before ≡ [] → IfOk judged (λ j. end ≡ Ok (judged_finish j)) → IfErr judged (λ f. end ≡ Err f)
     → IfOk judged (λ j. Tells name spec j (Some before) (Some lines)) → IfOk end (λ f. IsHanded f lines None status told old new)
-    → IfErr end (λ f. IsWithheld status old new) → Answers (IsCheckDue name spec) status told old new
+    → IfErr end (λ f. IsWithheld f status told old new) → Answers (IsCheckDue name spec) status told old new
 answers_checked name spec lines (Ok j) end status told old new before b o f t h w =
     let g = subst (λ z. Tells name spec j (Some z) (Some lines)) b t in
     let due = checked name spec j g.found in
@@ -87,19 +91,20 @@ answers_checked name spec lines (Ok j) end status told old new before b o f t h 
     (record { due = due; is_due = is_due; ends = refl; written = g.written })
     (record { due = due; is_due = is_due; placed = refl })
 answers_checked name spec lines (Err fault) end status told old new before b o f t h w =
-    answers_withheld (IsCheckDue name spec) lines None status told old new (subst (λ z. IfErr z (λ x. IsWithheld status old new)) f w)
+    answers_withheld (IsCheckDue name spec) lines None status told old new fault
+    (subst (λ z. IfErr z (λ x. IsWithheld x status told old new)) f w)
 
--- a run of a graph ended so, or met a fault, and is handed over as a run that does
-pub answers_drawn : (IsDue : Due → Type 0) (lines : List ℕ) (drawn : Result Ending LookFault) (end : Result Ending RunFault) (status : ℕ)
-    (told : Told) (old new before : List ℕ) → before ≡ [] → IfOk drawn (λ e. end ≡ Ok e)
-    → IfErr drawn (λ l. (f : RunFault) × (end ≡ Err f) × (fault_of_run f ≡ l)) → IfOk drawn (λ e. Concludes IsDue e (Some before) (Some lines))
-    → IfOk end (λ e. IsHanded (finish_of e) lines (place_of e) status told old new) → IfErr end (λ f. IsWithheld status old new)
+-- a match ended so, or met a fault, and is handed over as a run that does
+pub answers_matched : (IsDue : Due → Type 0) (lines : List ℕ) (report : Result MatchReport RunFault) (end : Result Ending RunFault) (status : ℕ)
+    (told : Told) (old new before : List ℕ) → before ≡ [] → IfOk report (λ r. end ≡ Ok r.ending) → IfErr report (λ f. end ≡ Err f)
+    → IfOk report (λ r. Concludes IsDue r.ending (Some before) (Some lines))
+    → IfOk end (λ e. IsHanded (finish_of e) lines (place_of e) status told old new) → IfErr end (λ f. IsWithheld f status told old new)
     → Answers IsDue status told old new
-answers_drawn IsDue lines (Ok ending) end status told old new before b o f e h w =
-    answers_ended IsDue lines status told old new (Ok ending) before b
+answers_matched IsDue lines (Ok r) end status told old new before b o f e h w =
+    answers_ended IsDue lines status told old new (Ok r.ending) before b
     (subst (λ z. IfOk z (λ x. IsHanded (finish_of x) lines (place_of x) status told old new)) o h) tt e
-answers_drawn IsDue lines (Err l) end status told old new before b o f e h w =
-    answers_withheld IsDue lines None status told old new (subst (λ z. IfErr z (λ x. IsWithheld status old new)) f.1 w)
+answers_matched IsDue lines (Err l) end status told old new before b o f e h w =
+    answers_withheld IsDue lines None status told old new l (subst (λ z. IfErr z (λ x. IsWithheld x status told old new)) f w)
 
 -- the run's limits and how it shows traces are those that were asked for
 pub answers_traced : (asked : TraceOptions) (shown : Shown) (steps : ℕ) (spec : List ℕ) (terms : Option (List ℕ)) (status : ℕ) (told : Told)

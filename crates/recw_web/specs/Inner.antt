@@ -1,2 +1,2 @@
--- What the proofs speak of inside this crate: no public contract cites it.
+-- Definitions that only proofs and private contracts use.
 pub mod Handing

@@ -6,11 +6,11 @@ ghost use Rattle.recw_web.specs.Answers.{Answers, IsCheckDue, judged_finish};
 use crate::handing::hand_over;
 use crate::told::Told;
 use rec_check::{Judgement, check_text};
-use rec_run::{Finish, RunFault};
+use rx_run::{Finish, RunFault};
 use std::alloc::Global;
 
-/// Checks a specification. The lines begin with the name, and each has its place, so none is told
-/// beside them. Warnings refuse nothing.
+/// Checks a specification. Each line begins with the name and a location, so `Told` has no offset.
+/// Warnings do not reject the text.
 #[unsafe(no_mangle)]
 pub extern "C" fn recw_check(
     alloc: Global,
@@ -26,7 +26,7 @@ pub extern "C" fn recw_check(
     hand_over(finish_of(judged), lines, None, out, told)
 }
 
-/// The end of a run that came to a judgement.
+/// Converts the result of a check.
 fn finish_of(judged: Result<Judgement, RunFault>) -> Result<Finish, RunFault>
     ensures ended { IfOk judged (λ end. result ≡ Ok (judged_finish end)) }
     ensures stopped { IfErr judged (λ fault. result ≡ Err fault) }

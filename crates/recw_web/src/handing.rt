@@ -1,28 +1,28 @@
-//! What a run came to is handed to the host.
+//! The result of a run is passed to the host.
 
 ghost use Rattle.std.specs.Prelude.{◌≡◌, ◌<◌, IfErr, IfOk, length, take};
 ghost use Rattle.rx_run.specs.Refusals.{finish_of, place_of};
-ghost use Rattle.recw_web.specs.Inner.Handing.{IsHanded, IsWithheld};
+ghost use Rattle.recw_web.specs.Inner.Handing.{IsHanded, IsWithheld, fault_number};
 
 use crate::told::Told;
-use rec_run::{Ending, Finish, Place, RunFault};
+use rx_run::{Ending, Finish, Place, RunFault};
 
 /// All lines were written.
 const DONE: u32 = 0;
 
-/// A text was refused.
+/// A text was rejected.
 const REFUSED: u32 = 1;
 
-/// The room is too short.
+/// The buffer is too short.
 const SHORT: u32 = 2;
 
-/// Memory ran out.
+/// Out of memory.
 const OUT_OF_MEMORY: u32 = 3;
 
-/// Cells ran out.
+/// Out of cells.
 const OUT_OF_CELLS: u32 = 4;
 
-/// Writes the lines of a run to the front of the room, and answers how it ended.
+/// Writes the lines of a run to the start of the buffer, and returns the status.
 pub(crate) fn hand_ending(
     end: Result<Ending, RunFault>,
     lines: Vec<u8>,
@@ -31,7 +31,8 @@ pub(crate) fn hand_ending(
 ) -> u32
     ensures handed { IfOk end (λ ending. IsHanded (finish_of ending) lines.items (place_of ending)
         result told.new out.old out.new) }
-    ensures withheld { IfErr end (λ _. IsWithheld result out.old out.new) }
+    ensures withheld { IfErr end (λ fault.
+        IsWithheld fault result told.new out.old out.new) }
 {
     match end {
         Ok(ending) => hand_over(Ok(ending.finish()), lines, ending.place(), out, told),
@@ -39,7 +40,7 @@ pub(crate) fn hand_ending(
     }
 }
 
-/// The same of a run that says of a refusal that there was one, and where.
+/// Writes the lines of a run with this result and this offset of an error, and returns the status.
 pub(crate) fn hand_over(
     end: Result<Finish, RunFault>,
     lines: Vec<u8>,
@@ -49,7 +50,8 @@ pub(crate) fn hand_over(
 ) -> u32
     ensures handed { IfOk end (λ finish.
         IsHanded finish lines.items place result told.new out.old out.new) }
-    ensures withheld { IfErr end (λ _. IsWithheld result out.old out.new) }
+    ensures withheld { IfErr end (λ fault.
+        IsWithheld fault result told.new out.old out.new) }
 {
     match end {
         Ok(finish) => {
@@ -63,7 +65,7 @@ pub(crate) fn hand_over(
     }
 }
 
-/// The same of a run that ended.
+/// Writes the lines of a run that ended, and returns the status.
 fn hand_lines(finish: Finish, lines: &[u8], out: &mut [u8]) -> u32
     ensures done { result ≡ 0 → finish ≡ Finish.Done }
     ensures refused { result ≡ 1 → finish ≡ Finish.Refused }
@@ -83,13 +85,15 @@ fn hand_lines(finish: Finish, lines: &[u8], out: &mut [u8]) -> u32
     }
 }
 
-/// The number of a fault. No text in memory refuses to be read, and the vector that is written to
-/// refuses where it cannot grow.
+/// Returns the status of an error. A text in memory can be read, a write to a vector fails only if
+/// the vector cannot grow, and no run has a call-depth limit.
 fn number_of(fault: RunFault) -> u32
-    ensures { (2 < result) × (result < 5) }
+    ensures { result ≡ fault_number fault }
 {
     match fault {
         RunFault::Room { .. } => OUT_OF_CELLS,
-        RunFault::Memory { .. } | RunFault::Read | RunFault::Write => OUT_OF_MEMORY,
+        RunFault::Memory { .. } | RunFault::Deep { .. } | RunFault::Read | RunFault::Write => {
+            OUT_OF_MEMORY
+        }
     }
 }

@@ -1,15 +1,13 @@
 //! Runs on the text of one annotated term.
 
-ghost use Rattle.std.specs.Prelude.{◌≡◌, IfErr, IfOk};
 ghost use Rattle.rx_look.specs.Due.{IsDotDue};
-ghost use Rattle.rx_look.specs.Faults.{fault_of_run};
 ghost use Rattle.rx_run.specs.TermRuns.{IsShareDue, IsTermDue};
 ghost use Rattle.recw_web.specs.Answers.{Answers};
 
 use crate::handing::hand_ending;
 use crate::told::Told;
-use rx_look::{LookFault, run_share_dot};
-use rx_run::{Ending, RunFault, print_term, share_term};
+use rx_look::run_share_dot;
+use rx_run::{print_term, share_term};
 use std::alloc::Global;
 
 /// Prints a term.
@@ -34,7 +32,7 @@ pub extern "C" fn recw_share(alloc: Global, term: &[u8], out: &mut [u8], told: &
     hand_ending(end, lines, out, told)
 }
 
-/// Writes the shared graph of a term for Graphviz, of at most so many nodes.
+/// Writes the graph of a term for Graphviz, with at most `nodes` nodes.
 #[unsafe(no_mangle)]
 pub extern "C" fn recw_share_dot(
     alloc: Global,
@@ -48,20 +46,5 @@ pub extern "C" fn recw_share_dot(
     let mut text = term;
     let mut lines = Vec::new(alloc);
     let end = run_share_dot(alloc, &mut text, nodes, &mut lines);
-    hand_ending(end_of(end), lines, out, told)
-}
-
-/// The end of a run that counts no lines.
-fn end_of(end: Result<Ending, LookFault>) -> Result<Ending, RunFault>
-    ensures ended { IfOk end (λ ending. result ≡ Ok ending) }
-    ensures stopped { IfErr end (λ look. (fault : RunFault) × (result ≡ Err fault)
-        × (fault_of_run fault ≡ look)) }
-{
-    match end {
-        Ok(ending) => Ok(ending),
-        Err(LookFault::Memory) => Err(RunFault::Memory { lines: 0 }),
-        Err(LookFault::Room) => Err(RunFault::Room { lines: 0 }),
-        Err(LookFault::Read) => Err(RunFault::Read),
-        Err(LookFault::Write) => Err(RunFault::Write),
-    }
+    hand_ending(end, lines, out, told)
 }

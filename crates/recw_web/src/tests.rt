@@ -1,8 +1,9 @@
-//! Each export with ample memory, beside what was worked out by hand.
+//! Tests of each export with ample memory. The expected values were worked out by hand.
 
 use crate::checking::recw_check;
 use crate::evaluating::{recw_eval, recw_eval_terms};
 use crate::patterns::{recw_make, recw_match};
+use crate::profiling::recw_profile;
 use crate::terms::{recw_aterm, recw_share, recw_share_dot};
 use crate::tracing::{recw_trace, recw_trace_terms};
 use crate::{Options, Told, TraceOptions};
@@ -14,7 +15,14 @@ const ADDITION: &[u8] =
       VARS X Y : Nat RULES plus(z,Y) -> Y plus(s(X),Y) -> s(plus(X,Y)) \
       EVAL plus(s(s(z)),s(z)) END-SPEC";
 
-/// The program's options, with the count.
+/// A specification that doubles a tree 17 times.
+const DOUBLING: &[u8] =
+    b"REC-SPEC Double SORTS Nat Tree CONS z : -> Nat s : Nat -> Nat leaf : -> Tree \
+      node : Tree Tree -> Tree OPNS d : Nat -> Tree dup : Tree -> Tree VARS X : Nat T : Tree \
+      RULES d(z) -> leaf d(s(X)) -> dup(d(X)) dup(T) -> node(T,T) \
+      EVAL d(s(s(s(s(s(s(s(s(s(s(s(s(s(s(s(s(s(z)))))))))))))))))) END-SPEC";
+
+/// The default options of the program, with step counts.
 const OPTIONS: Options = Options {
     steps: 1_000_000,
     cells: 16_777_216,
@@ -23,28 +31,28 @@ const OPTIONS: Options = Options {
     count: true,
 };
 
-/// The same, of which a firing shows eight bytes of a term.
+/// Options of a trace that shows eight bytes of a term.
 const CUT: TraceOptions = TraceOptions {
     limits: OPTIONS,
     width: 8,
     whole: false,
 };
 
-/// The same with whole terms.
+/// Options of a trace with whole terms.
 const WHOLE: TraceOptions = TraceOptions {
     limits: OPTIONS,
     width: 100,
     whole: true,
 };
 
-/// What is told before a run.
+/// The value of `Told` before a run.
 const UNTOLD: Told = Told {
     length: 99,
     at: 99,
     has_place: true,
 };
 
-/// What stands at the front of the room is as wanted, and no place is told.
+/// Checks the start of the buffer, and that there is no offset.
 fn wrote(rt: &impl Abort, status: u32, told: Told, room: &[u8], wanted: &[u8]) {
     assert_eq!(rt; status, 0);
     assert!(rt; !told.has_place);
@@ -61,6 +69,66 @@ fn evaluations_are_written(rt: HostRuntime) {
     wrote(&rt, status, told, &room, b"s(s(s(z)))\t3\n");
     let status = recw_eval_terms(alloc, ADDITION, b"[z]", &OPTIONS, &mut room, &mut told);
     wrote(&rt, status, told, &room, b"s(s(s(z)))\t3\nz\t0\n");
+}
+
+/// A value of 2^17 leaves has 11 * 2^17 - 7 bytes.
+#[test]
+fn long_values_are_not_written(rt: HostRuntime) {
+    let alloc = rt.alloc();
+    let mut room = [0u8; 40];
+    let mut told = UNTOLD;
+    let status = recw_eval_terms(
+        alloc,
+        DOUBLING,
+        b"[d(s(z))]",
+        &OPTIONS,
+        &mut room,
+        &mut told,
+    );
+    wrote(
+        &rt,
+        status,
+        told,
+        &room,
+        b"!bytes 1000000\nnode(leaf,leaf)\t3\n",
+    );
+}
+
+/// Two rules: the first applies once, the second twice.
+#[test]
+fn profiles_are_written(rt: HostRuntime) {
+    let alloc = rt.alloc();
+    let mut room = [0u8; 40];
+    let mut told = UNTOLD;
+    let mut counts = [9u64; 13];
+    let status = recw_profile(
+        alloc,
+        ADDITION,
+        b"[z]",
+        &OPTIONS,
+        &mut counts,
+        &mut room,
+        &mut told,
+    );
+    wrote(&rt, status, told, &room, b"s(s(s(z)))\t3\nz\t0\n");
+    assert_eq!(rt; (counts[0], counts[1], counts[2], counts[3]), (2, 3, 2, 0));
+    assert_eq!(rt; (counts[7], counts[8], counts[9]), (1, 1, 0));
+    assert_eq!(rt; (counts[10], counts[11], counts[12]), (2, 2, 0));
+    let mut short = [9u64; 2];
+    let status = recw_profile(
+        alloc,
+        b"REC-SPEC",
+        b"[]",
+        &OPTIONS,
+        &mut short,
+        &mut room,
+        &mut told,
+    );
+    assert_eq!(rt; (status, short[0], short[1]), (1, 9, 9));
+    let status = recw_profile(
+        alloc, ADDITION, b"[]", &OPTIONS, &mut short, &mut room, &mut told,
+    );
+    assert_eq!(rt; (status, short[0], short[1]), (0, 2, 3));
 }
 
 /// The rules of the addition begin in its one line, at the columns 103 and 118.
@@ -88,7 +156,7 @@ fn checks_are_written(rt: HostRuntime) {
     wrote(&rt, status, told, &room, b"");
     let unused = b"REC-SPEC A SORTS N CONS z : -> N END-SPEC";
     let status = recw_check(alloc, b"a.rec", unused, &mut room, &mut told);
-    let warning = b"a.rec:1:25: W4: never used: a symbol of no rule and of no term: z\n";
+    let warning = b"a.rec:1:25: warning: unused symbol: z [W4]\n";
     wrote(&rt, status, told, &room, warning);
     let status = recw_check(
         alloc,
@@ -98,7 +166,7 @@ fn checks_are_written(rt: HostRuntime) {
         &mut told,
     );
     assert_eq!(rt; (status, told.has_place), (1, false));
-    assert!(rt; room.starts_with(b"b:1:18: G: no specification has this here\n"));
+    assert!(rt; room.starts_with(b"b:1:18: error: syntax error in the specification [G]\n"));
     assert_eq!(rt; told.length, 42);
 }
 

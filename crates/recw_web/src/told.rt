@@ -1,25 +1,25 @@
-//! What a host is told beside the number.
+//! The length of the output, and the offset of an error.
 
 ghost use Rattle.std.specs.Prelude.{◌≡◌};
 ghost use Rattle.std.specs.Option.{option_map};
 ghost use Rattle.recw_web.specs.Answers.{told_place};
 
-use rec_run::Place;
+use rx_run::Place;
 
-/// What a host is told of a run: 0 and false where it met a fault.
+/// The length of the output and the offset of an error; 0 and false after a failed run.
 #[derive(Clone, Copy)]
 #[repr(C)]
 pub struct Told {
-    /// How many bytes the lines have that are due.
+    /// The number of bytes of the specified output.
     pub length: usize,
-    /// How many bytes of the refused text stand before the place of the refusal.
+    /// The offset of the error in the rejected text.
     pub at: u32,
-    /// Whether the refusal has a place.
+    /// Whether the error has an offset.
     pub has_place: bool,
 }
 
 impl Told {
-    /// What is told of lines and of the place of a refusal.
+    /// Returns the length of the output with the offset of an error, if there is one.
     pub(crate) fn of(length: usize, place: Option<Place>) -> Told
         ensures length { result.length ≡ length }
         ensures place { told_place result ≡ option_map (λ p. p.at) place }

@@ -1,101 +1,135 @@
-//! The arguments of the command line: words and options, each with its range.
+//! The arguments of the commands: file arguments, and options with their ranges.
 
 use clap::builder::ValueParser;
 use clap::{Arg, ArgAction};
 use std::alloc::{AllocError, Global};
 
-/// The most steps that may be asked for.
+/// The largest step limit.
 pub const MOST_STEPS: u64 = 1_000_000_000_000_000_000;
 
-/// The most cells, and the most new cells between two reclaims.
+/// The largest number of bytes of a result.
+pub const MOST_BYTES: u64 = 1_000_000_000_000_000_000;
+
+/// The largest store capacity in cells, and the largest `--reclaim`.
 pub const MOST_CELLS: u32 = 1_073_741_824;
 
-/// The most results that are remembered.
+/// The largest capacity of the memo table, in results.
 pub const MOST_RESULTS: u32 = 1_048_576;
 
-/// The most blanks that a level may have.
+/// The most spaces of one indentation level.
 pub const MOST_INDENT: u32 = 64;
 
-/// The fewest bytes to which a term may be cut: those of the dots that tell of it.
+/// The smallest `--width`: the three dots at which a term is cut.
 pub const LEAST_WIDTH: u32 = 3;
 
-/// An argument of a subcommand.
+/// An argument of a command.
 #[derive(Clone, Copy)]
 pub struct Argument {
-    /// What it is read back by: the word that the help has for it, or what follows the dashes.
+    /// The identifier by which its value is read: the name in the help, or the option without its
+    /// dashes.
     pub name: &'static str,
-    /// What the help says of it.
+    /// Its line in the help.
     pub help: &'static str,
-    /// What is given for it.
+    /// Its form.
     pub kind: Kind,
 }
 
-/// What is given for an argument.
+/// The form of an argument.
 #[derive(Clone, Copy)]
 pub enum Kind {
-    /// A word, which may be left out.
+    /// An optional file or term.
     Word,
-    /// A word.
+    /// A required file or term.
     Needed,
-    /// Words, one at least.
+    /// One or more files.
     Several,
-    /// No more than the option.
+    /// An option without a value.
     Flag,
-    /// The option with a number.
+    /// An option with a number.
     Number(Number),
-    /// The option with a number, beside another option alone.
+    /// An option with a number, which requires the other option.
     NumberBeside(Number, &'static str),
-    /// The option with two numbers and a `:` between them, which are read as several.
+    /// An option with two numbers and a `:` between them, which are read as two values.
     Place(Number),
-    /// The option with a name, which the help calls so.
+    /// An option with a name; the string is its placeholder in the help.
     Name(&'static str),
-    /// The option `--term`, once or more, without a word of that name.
+    /// An option with one of several names.
+    Choice(Choice),
+    /// The option `--term`, which may be repeated, and excludes the argument with this name.
     Term(&'static str),
+    /// An option with a file, which may be repeated; the string is its placeholder in the help. It
+    /// excludes the options with these names.
+    Files(&'static str, &'static [&'static str]),
 }
 
-/// The number that an option has.
+/// The number of an option.
 #[derive(Clone, Copy)]
 pub struct Number {
-    /// What the help calls it.
+    /// Its placeholder in the help.
     pub called: &'static str,
-    /// The number where the option is not given, where there is one then.
+    /// The default, if there is one.
     pub default: Option<&'static str>,
-    /// Its range.
+    /// The range of the number.
     pub range: ValueParser<'static>,
 }
 
-/// The pattern that must be given.
+/// The names of an option's values.
+#[derive(Clone, Copy)]
+pub struct Choice {
+    /// The placeholder in the help.
+    pub called: &'static str,
+    /// The default.
+    pub default: Option<&'static str>,
+    /// The names.
+    pub names: &'static [&'static str],
+}
+
+/// The pattern of `match` and `make`.
 pub const PATTERN: Argument = Argument {
     name: "PATTERN",
     help: "ATerm with placeholders",
     kind: Kind::Needed,
 };
 
-/// Given terms of an evaluation.
+/// The file of input terms.
 pub const TERMS: Argument = Argument {
     name: "TERMS",
-    help: "File of an ATerm list of further terms, or -",
+    help: "File with an ATerm list of input terms, or -",
     kind: Kind::Word,
 };
 
 /// The file of a term.
 pub const FILE: Argument = Argument {
     name: "FILE",
-    help: "File of the ATerm, or - [default: standard input]",
+    help: "ATerm file, or - [default: standard input]",
     kind: Kind::Word,
 };
 
-/// The option `--term`, in place of a file of further terms.
+/// The option `--term`, an alternative to a file of input terms.
 pub const TERM: Argument = Argument {
     name: "term",
-    help: "A further term; may be given several times",
+    help: "Input term instead of TERMS; may be repeated",
     kind: Kind::Term("TERMS"),
+};
+
+/// The option `--join`.
+pub const JOIN: Argument = Argument {
+    name: "join",
+    help: "Specification to join before SPEC; may be repeated",
+    kind: Kind::Files("FILE", &[]),
+};
+
+/// The option `--join` of `check`, which writes lines only.
+pub const JOIN_CHECKED: Argument = Argument {
+    name: "join",
+    help: "Specification to join before SPEC; may be repeated",
+    kind: Kind::Files("FILE", &["format", "explain"]),
 };
 
 /// The option `--steps`.
 pub const STEPS: Argument = Argument {
     name: "steps",
-    help: "Most steps that a term may take, up to 10^18",
+    help: "Step limit per term, up to 10^18",
     kind: Kind::Number(Number {
         called: "N",
         default: Some("1000000"),
@@ -106,7 +140,7 @@ pub const STEPS: Argument = Argument {
 /// The option `--cells`.
 pub const CELLS: Argument = Argument {
     name: "cells",
-    help: "Most cells that terms may take, 1 to 2^30; the default takes up to 1.4 GB",
+    help: "Cells in the store, 1 to 2^30",
     kind: Kind::Number(Number {
         called: "C",
         default: Some("16777216"),
@@ -117,7 +151,7 @@ pub const CELLS: Argument = Argument {
 /// The option `--memo`.
 pub const MEMO: Argument = Argument {
     name: "memo",
-    help: "Most results to remember, up to 2^20",
+    help: "Results in memo table, 0 to 2^20",
     kind: Kind::Number(Number {
         called: "M",
         default: Some("65536"),
@@ -128,7 +162,7 @@ pub const MEMO: Argument = Argument {
 /// The option `--reclaim`.
 pub const RECLAIM: Argument = Argument {
     name: "reclaim",
-    help: "New cells between two reclaims, 1 to 2^30",
+    help: "Most new cells between collections",
     kind: Kind::Number(Number {
         called: "K",
         default: Some("262144"),
@@ -139,7 +173,7 @@ pub const RECLAIM: Argument = Argument {
 /// The option `--depth`.
 pub const DEPTH: Argument = Argument {
     name: "depth",
-    help: "Most calls that may wait at once, up to 2^32 - 1",
+    help: "Call-depth limit, up to 2^32 - 1 [default: no limit]",
     kind: Kind::Number(Number {
         called: "D",
         default: None,
@@ -147,10 +181,10 @@ pub const DEPTH: Argument = Argument {
     }),
 };
 
-/// The option `--depth` of a conversation.
+/// The option `--depth` of `serve`, which has a default.
 pub const SERVED_DEPTH: Argument = Argument {
     name: "depth",
-    help: "Most calls that may wait at once, up to 2^32 - 1",
+    help: "Call-depth limit, up to 2^32 - 1",
     kind: Kind::Number(Number {
         called: "D",
         default: Some("1000000"),
@@ -158,10 +192,32 @@ pub const SERVED_DEPTH: Argument = Argument {
     }),
 };
 
+/// The option `--bytes`.
+pub const BYTES: Argument = Argument {
+    name: "bytes",
+    help: "Bytes per result, up to 10^18 [default: no limit]",
+    kind: Kind::Number(Number {
+        called: "B",
+        default: None,
+        range: ValueParser::Unsigned(0, MOST_BYTES),
+    }),
+};
+
+/// The option `--bytes` of `serve`, which has a default.
+pub const SERVED_BYTES: Argument = Argument {
+    name: "bytes",
+    help: "Bytes per result, up to 10^18",
+    kind: Kind::Number(Number {
+        called: "B",
+        default: Some("16777216"),
+        range: ValueParser::Unsigned(0, MOST_BYTES),
+    }),
+};
+
 /// The option `--indent`.
 pub const INDENT: Argument = Argument {
     name: "indent",
-    help: "Print it over several lines, with N blanks for each level, 0 to 64",
+    help: "Print over several lines, N spaces per level, 0 to 64",
     kind: Kind::Number(Number {
         called: "N",
         default: None,
@@ -183,7 +239,7 @@ pub const WIDTH: Argument = Argument {
 /// The option `--first`.
 pub const FIRST: Argument = Argument {
     name: "first",
-    help: "Print only the first N that fire, up to 10^18",
+    help: "Print only the first N rewrites, up to 10^18",
     kind: Kind::Number(Number {
         called: "N",
         default: None,
@@ -194,7 +250,7 @@ pub const FIRST: Argument = Argument {
 /// The option `--last`.
 pub const LAST: Argument = Argument {
     name: "last",
-    help: "Print only the last N that fire, up to 2^30",
+    help: "Print only the last N rewrites, up to 2^30",
     kind: Kind::Number(Number {
         called: "N",
         default: None,
@@ -205,7 +261,18 @@ pub const LAST: Argument = Argument {
 /// The option `--rule`.
 pub const RULE: Argument = Argument {
     name: "rule",
-    help: "Print only where the rule fires that begins at this place",
+    help: "Print only rewrites by the rule at this location",
+    kind: Kind::Place(Number {
+        called: "LINE:COL",
+        default: None,
+        range: ValueParser::Signed(1, u32::MAX as i64),
+    }),
+};
+
+/// The option `--at`.
+pub const AT: Argument = Argument {
+    name: "at",
+    help: "Print only the uses of the word at this location",
     kind: Kind::Place(Number {
         called: "LINE:COL",
         default: None,
@@ -216,14 +283,14 @@ pub const RULE: Argument = Argument {
 /// The option `--symbol`.
 pub const SYMBOL: Argument = Argument {
     name: "symbol",
-    help: "Print only where a call of this symbol is rewritten",
+    help: "Print only rewrites of calls of this symbol",
     kind: Kind::Name("NAME"),
 };
 
-/// The option `--nodes`, which belongs to a graph.
+/// The option `--nodes`, which requires `--dot`.
 pub const NODES: Argument = Argument {
     name: "nodes",
-    help: "Most parts in the graph, 1 to 2^30",
+    help: "Most nodes in the graph, 1 to 2^30",
     kind: Kind::NumberBeside(
         Number {
             called: "N",
@@ -237,25 +304,43 @@ pub const NODES: Argument = Argument {
 /// The option `--count`.
 pub const COUNT: Argument = Argument {
     name: "count",
-    help: "Print the steps that each term took behind its value",
+    help: "Print the step count after each result",
     kind: Kind::Flag,
 };
 
-/// The option `--count` of a trace.
+/// The option `--count` of `trace`.
 pub const SPENT: Argument = Argument {
     name: "count",
-    help: "Print the steps that were spent so far behind each line",
+    help: "Print the steps so far after each line",
     kind: Kind::Flag,
 };
 
 /// The option `--explain`.
 pub const EXPLAIN: Argument = Argument {
     name: "explain",
-    help: "Say in words why a text is refused, and where",
+    help: "Explain errors, also if not on a terminal",
     kind: Kind::Flag,
 };
 
-/// These arguments for the command, in their order.
+/// The option `--explain` of `check`.
+pub const EXPLAIN_FINDINGS: Argument = Argument {
+    name: "explain",
+    help: "Explain findings, also if not on a terminal",
+    kind: Kind::Flag,
+};
+
+/// The option `--format`.
+pub const FORMAT: Argument = Argument {
+    name: "format",
+    help: "Write lines (gnu) or JSON objects (json)",
+    kind: Kind::Choice(Choice {
+        called: "FORM",
+        default: Some("gnu"),
+        names: &["gnu", "json"],
+    }),
+};
+
+/// Makes these arguments for the command, in their order.
 pub fn arguments_of<'a>(alloc: Global, arguments: &[Argument]) -> Result<Vec<Arg<'a>>, AllocError> {
     let mut made = Vec::new(alloc);
     for argument in arguments {
@@ -264,7 +349,7 @@ pub fn arguments_of<'a>(alloc: Global, arguments: &[Argument]) -> Result<Vec<Arg
     Ok(made)
 }
 
-/// One argument.
+/// Makes one argument.
 fn argument_of<'a>(alloc: Global, argument: &Argument) -> Result<Arg<'a>, AllocError> {
     let bare = word(alloc, argument);
     match argument.kind {
@@ -278,26 +363,31 @@ fn argument_of<'a>(alloc: Global, argument: &Argument) -> Result<Arg<'a>, AllocE
         }
         Kind::Place(number) => Ok(option(bare, argument.name, &number).value_delimiter(':')),
         Kind::Name(called) => Ok(bare.long(argument.name).value_name(called)),
+        Kind::Choice(choice) => Ok(one_of(bare, argument.name, &choice)),
         Kind::Term(other) => term(bare, argument.name).conflicts_with(other),
+        Kind::Files(called, others) => {
+            let option = files(bare, argument.name, called);
+            option.conflicts_with_all(others)
+        }
     }
 }
 
-/// A word, which may be left out.
+/// Makes an optional argument.
 fn word<'a>(alloc: Global, argument: &Argument) -> Arg<'a> {
     Arg::new(alloc, argument.name).help(argument.help)
 }
 
-/// Words, one at least.
+/// Makes it required, and lets it be repeated.
 fn several(bare: Arg<'_>) -> Arg<'_> {
     bare.required(true).num_args(1..).action(ArgAction::Append)
 }
 
-/// An option without a value.
+/// Makes it an option without a value.
 fn flag<'a>(bare: Arg<'a>, name: &'a str) -> Arg<'a> {
     bare.long(name).action(ArgAction::SetTrue)
 }
 
-/// An option with a number.
+/// Makes it an option with a number.
 fn option<'a>(bare: Arg<'a>, name: &'a str, number: &Number) -> Arg<'a> {
     let option = bare
         .long(name)
@@ -310,10 +400,28 @@ fn option<'a>(bare: Arg<'a>, name: &'a str, number: &Number) -> Arg<'a> {
     }
 }
 
-/// The option `--term`.
+/// Makes it an option with one of several names.
+fn one_of<'a>(bare: Arg<'a>, name: &'a str, choice: &Choice) -> Arg<'a> {
+    let option = bare
+        .long(name)
+        .value_name(choice.called)
+        .value_parser(ValueParser::Names(choice.names))
+        .hide_possible_values(true);
+    match choice.default {
+        Some(default) => option.default_value(default),
+        None => option,
+    }
+}
+
+/// Makes it the option `--term`.
 fn term<'a>(bare: Arg<'a>, name: &'a str) -> Arg<'a> {
     bare.short('e')
         .long(name)
         .value_name("TERM")
         .action(ArgAction::Append)
+}
+
+/// Makes it an option with a file that may be repeated.
+fn files<'a>(bare: Arg<'a>, name: &'a str, called: &'a str) -> Arg<'a> {
+    bare.long(name).value_name(called).action(ArgAction::Append)
 }

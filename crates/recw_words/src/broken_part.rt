@@ -1,7 +1,7 @@
-//! What is told of the part of a given term that breaks a rule.
+//! Explanations of the part of an input term that violates a well-formedness rule.
 
 use crate::elements::{Kind, Part};
-use crate::named::{argument_misfit, nearest_symbol, write_misfit, write_nearest, write_takes};
+use crate::named::{Detail, argument_misfit, nearest_symbol, write_nearest};
 use crate::names::{find_symbol, word_in};
 use crate::place::show_bytes;
 use rec_syntax::{Declaration, Syntax};
@@ -9,7 +9,8 @@ use rx_run::Reason;
 use std::io;
 use std::io::Write;
 
-/// The first part of a given term that breaks one of the rules 2 to 6, where that can be told.
+/// Returns the first part of an input term that violates the rule of `reason`, one of T2 to T6.
+/// Returns `None` for other errors.
 pub fn first_broken<'a>(syntax: &Syntax, parts: &[Part<'a>], reason: Reason) -> Option<Part<'a>> {
     let Reason::TermsRule { number } = reason else {
         return None;
@@ -20,7 +21,7 @@ pub fn first_broken<'a>(syntax: &Syntax, parts: &[Part<'a>], reason: Reason) -> 
         .copied()
 }
 
-/// Whether a part breaks the rule of this number.
+/// Returns whether a part violates the rule with this number.
 fn is_broken(syntax: &Syntax, parts: &[Part<'_>], part: &Part<'_>, rule: u8) -> bool {
     match rule {
         2 => !matches!(part.kind, Kind::Plain | Kind::Quoted),
@@ -37,22 +38,20 @@ fn is_broken(syntax: &Syntax, parts: &[Part<'_>], part: &Part<'_>, rule: u8) -> 
     }
 }
 
-/// The symbol of which a part is an argument, and how many arguments stand before it.
+/// Returns the symbol of which a part is an argument, and the argument's index.
 fn misfit_symbol<'a>(parts: &[Part<'a>], part: &Part<'_>) -> Option<(&'a [u8], usize)> {
     let (parent, index) = part.parent?;
     Some((parts.get(parent)?.name, index))
 }
 
-/// Whether a part's name is declared, with its flag. Of a name with escapes that is not told.
+/// Returns whether a symbol with the part's name is declared, and the name is quoted if and only if
+/// it has to be.
 fn is_declared(syntax: &Syntax, part: &Part<'_>) -> bool {
     let is_quoted = part.kind == Kind::Quoted;
-    if is_quoted && part.name.contains(&b'\\') {
-        return true;
-    }
     find_symbol(syntax, part.name).is_some() && is_quoted == is_quoted_in_terms(part.name)
 }
 
-/// Whether a word of a specification is quoted in a text of terms.
+/// Returns whether a name of a specification has to be quoted in a text of terms.
 fn is_quoted_in_terms(word: &[u8]) -> bool {
     let begins_plain = match word.first() {
         Some(byte) => byte.is_ascii_alphabetic() || *byte == b'_',
@@ -61,7 +60,8 @@ fn is_quoted_in_terms(word: &[u8]) -> bool {
     !begins_plain || word.contains(&b'\'')
 }
 
-/// Tells what is wrong with the first part that breaks a rule.
+/// Writes the details of the part that violates a rule: its kind, its symbol, or the expected and
+/// the actual count or sort.
 pub fn write_part<W: Write>(
     syntax: &Syntax,
     parts: &[Part<'_>],
@@ -78,44 +78,63 @@ pub fn write_part<W: Write>(
     }
 }
 
-/// Tells what stands in the place of an application.
+/// Writes the kind of a part that is not an application.
 fn write_kind<W: Write>(syntax: &Syntax, part: &Part<'_>, out: &mut W) -> io::Result<()> {
     match part.kind {
-        Kind::List => out.write_all(b"; a list"),
-        Kind::Placeholder => out.write_all(b"; a placeholder"),
+        Kind::List => out.write_all(b"; found a list"),
+        Kind::Placeholder => out.write_all(b"; found a placeholder"),
         _ => {
-            out.write_all(b"; the integer ")?;
+            out.write_all(b"; found the integer ")?;
             out.write_all(part.name)?;
             write_meant(find_symbol(syntax, part.name), syntax, out)
         }
     }
 }
 
-/// Tells what has annotations.
+/// Writes the name of a part that has annotations.
 fn write_annotated<W: Write>(part: &Part<'_>, out: &mut W) -> io::Result<()> {
-    out.write_all(b"; annotations of ")?;
+    out.write_all(b"; found on ")?;
     write_name(part.name, part.kind == Kind::Quoted, out)
 }
 
-/// Tells how many arguments a part should have, and how many it has.
+/// Writes the declared and the actual number of arguments.
 fn write_count<W: Write>(syntax: &Syntax, part: &Part<'_>, out: &mut W) -> io::Result<()> {
     match find_symbol(syntax, part.name) {
-        Some(symbol) => write_takes(part.name, symbol.arguments.len(), part.count, out),
+        Some(symbol) => {
+            let detail = Detail::Count {
+                symbol: part.name,
+                wanted: symbol.arguments.len(),
+                given: part.count,
+            };
+            write_detail(&detail, out)
+        }
         None => Ok(()),
     }
 }
 
-/// Tells which symbol is not declared, and asks whether another was meant.
+/// Writes the undeclared symbol, and a suggestion.
 fn write_undeclared<W: Write>(syntax: &Syntax, part: &Part<'_>, out: &mut W) -> io::Result<()> {
     out.write_all(b"; ")?;
     write_name(part.name, part.kind == Kind::Quoted, out)?;
     match find_symbol(syntax, part.name) {
         Some(symbol) => write_meant(Some(symbol), syntax, out),
-        None => write_nearest(nearest_symbol(syntax, part.name), out),
+        None => match nearest_symbol(syntax, part.name) {
+            Some(name) => {
+                out.write_all(b"; ")?;
+                write_nearest(name, out)
+            }
+            None => Ok(()),
+        },
     }
 }
 
-/// Asks whether a symbol was meant, as texts of terms have it.
+/// Writes a detail, after the rest of a line.
+fn write_detail<W: Write>(detail: &Detail<'_>, out: &mut W) -> io::Result<()> {
+    out.write_all(b"; ")?;
+    detail.write(out)
+}
+
+/// Writes a suggestion: the symbol in the spelling of texts of terms.
 fn write_meant<W: Write>(
     symbol: Option<&Declaration>,
     syntax: &Syntax,
@@ -130,7 +149,7 @@ fn write_meant<W: Write>(
     out.write_all(b"`?")
 }
 
-/// Writes a name, in quotes where it is quoted.
+/// Writes a name, in quotes if it is quoted.
 fn write_name<W: Write>(name: &[u8], is_quoted: bool, out: &mut W) -> io::Result<()> {
     if !is_quoted {
         return out.write_all(if name.is_empty() { b"()" } else { name });
@@ -140,7 +159,7 @@ fn write_name<W: Write>(name: &[u8], is_quoted: bool, out: &mut W) -> io::Result
     out.write_all(b"\"")
 }
 
-/// Tells which sort an argument should have, and which it has.
+/// Writes the declared and the actual sort of an argument.
 fn write_argument<W: Write>(
     syntax: &Syntax,
     parts: &[Part<'_>],
@@ -151,7 +170,7 @@ fn write_argument<W: Write>(
         return Ok(());
     };
     match argument_misfit(syntax, symbol, index, part.name) {
-        Some(misfit) => write_misfit(misfit, out),
+        Some(misfit) => write_detail(&Detail::Argument(misfit), out),
         None => Ok(()),
     }
 }

@@ -1,93 +1,107 @@
-//! The command line, and its help.
+//! The commands, their arguments and the texts of their help.
 
 use crate::arguments::{
-    Argument, CELLS, COUNT, DEPTH, EXPLAIN, FILE, FIRST, INDENT, Kind, LAST, MEMO, NODES, PATTERN,
-    RECLAIM, RULE, SERVED_DEPTH, SPENT, STEPS, SYMBOL, TERM, TERMS, WIDTH, arguments_of,
+    AT, Argument, BYTES, CELLS, COUNT, DEPTH, EXPLAIN, EXPLAIN_FINDINGS, FILE, FIRST, FORMAT,
+    INDENT, JOIN, JOIN_CHECKED, Kind, LAST, MEMO, NODES, PATTERN, RECLAIM, RULE, SERVED_BYTES,
+    SERVED_DEPTH, SPENT, STEPS, SYMBOL, TERM, TERMS, WIDTH, arguments_of,
 };
 use clap::Command;
 use std::alloc::{AllocError, Global};
 
-/// The version. What the program was proved with can't be known here: another kit may build it.
+/// The version. The version of the prover is not known here, since another kit may build the
+/// program.
 const VERSION: &str = "0.1.0";
 
-/// A subcommand, as the help has it.
+/// A command of the program.
 #[derive(Clone, Copy)]
 struct Subcommand {
     /// Its name.
     name: &'static str,
-    /// What it does, above its help.
+    /// Its one-line description.
     about: &'static str,
-    /// What stands below its help.
+    /// The text below its options in the help.
     after_help: &'static str,
-    /// Its words and options, in the order of its help.
+    /// Its arguments, in the order of its help.
     arguments: &'static [Argument],
 }
 
-/// The subcommands, in the order of the help.
-static SUBCOMMANDS: [Subcommand; 8] = [EVAL, SERVE, TRACE, ATERM, SHARE, MATCH, MAKE, CHECK];
+/// The commands on terms, in the order of the help.
+static ON_TERMS: [Subcommand; 7] = [EVAL, SERVE, TRACE, ATERM, SHARE, MATCH, MAKE];
 
-/// The subcommand `eval`.
+/// The commands on specifications, which the help has after those on terms.
+static ON_SPECIFICATIONS: [Subcommand; 3] = [CHECK, USES, JOINED];
+
+/// The command `eval`.
 const EVAL: Subcommand = Subcommand {
     name: "eval",
-    about: "Evaluate the terms of a REC specification",
-    after_help: "Example: recw eval --steps 500 add.rec add.trm",
+    about: "Evaluate the terms of a specification",
+    after_help: "A term that needs more than N steps prints the limit line '!limit N', and a\n\
+         result of more than B bytes prints the limit line '!bytes B'. The reports of\n\
+         --stuck, --profile, --progress and --explain go to standard error.\n\n\
+         A cell takes up to 72 bytes, or 93 while a result of all cells is printed, so\n\
+         the default of --cells takes up to 1.2 GB, or 1.6 GB.\n\n\
+         Example: recw eval --count --steps 500 add.rec add.trm",
     arguments: &[
         Argument {
             name: "SPEC",
-            help: "File of the specification, or - [default: standard input]",
+            help: "Specification file, or - [default: standard input]",
             kind: Kind::Word,
         },
         TERMS,
         TERM,
+        JOIN,
         STEPS,
         CELLS,
         MEMO,
         RECLAIM,
         DEPTH,
+        BYTES,
         COUNT,
         Argument {
             name: "limit-annotations",
-            help: "Print the annotations of a further term behind its limit",
+            help: "Print an input term's annotations after its limit",
             kind: Kind::Flag,
         },
         Argument {
             name: "limit-status",
-            help: "End with status 5 where a term takes more steps",
+            help: "Exit with status 5 if there is a limit line",
             kind: Kind::Flag,
         },
         Argument {
             name: "stuck",
-            help: "Tell on standard error which calls of operators the values hold",
+            help: "Report stuck calls in results; status 5 if any",
             kind: Kind::Flag,
         },
         Argument {
             name: "profile",
-            help: "Tell on standard error how often each rule is used, and what the run takes",
+            help: "Report rule counts and resource use",
             kind: Kind::Flag,
         },
         Argument {
             name: "progress",
-            help: "Show on standard error how far a long term is, as on a terminal",
+            help: "Show progress, also if not on a terminal",
             kind: Kind::Flag,
         },
         EXPLAIN,
     ],
 };
 
-/// The subcommand `serve`.
+/// The command `serve`.
 const SERVE: Subcommand = Subcommand {
     name: "serve",
-    about: "Answer requests, each a line with an ATerm, by a line each",
-    after_help: "Example: echo 'plus(s(z),s(z))' | recw serve add.rec",
+    about: "Evaluate one term per input line, and print one line for each",
+    after_help: "A term that needs more than N steps prints '!limit N', and a result of more\n\
+         than B bytes prints '!bytes B'.\n\n\
+         Example: echo 'plus(s(z),s(z))' | recw serve add.rec",
     arguments: &[
         Argument {
             name: "SPEC",
-            help: "File of the specification, or - where FILE is named",
+            help: "Specification file, or - if FILE is given",
             kind: Kind::Needed,
         },
         Argument {
             name: "FILE",
-            help: "File of the requests, or - [default: standard input]",
+            help: "File with a term on each line, or - [default: standard input]",
             kind: Kind::Word,
         },
         STEPS,
@@ -95,21 +109,22 @@ const SERVE: Subcommand = Subcommand {
         MEMO,
         RECLAIM,
         SERVED_DEPTH,
+        SERVED_BYTES,
         COUNT,
         EXPLAIN,
     ],
 };
 
-/// The subcommand `trace`.
+/// The command `trace`.
 const TRACE: Subcommand = Subcommand {
     name: "trace",
-    about: "Print each rule that fires while terms are evaluated, and what it rewrites",
-    after_help: "Each line is LINE:COL: TERM -> TERM, with the place at which the rule begins.\n\n\
+    about: "Print every rewrite outside conditions",
+    after_help: "Each line is LINE:COL: CALL -> TERM, with the location of the rule.\n\n\
          Example: recw trace --first 2 add.rec",
     arguments: &[
         Argument {
             name: "SPEC",
-            help: "File of the specification, or -",
+            help: "Specification file, or -",
             kind: Kind::Needed,
         },
         TERMS,
@@ -118,7 +133,7 @@ const TRACE: Subcommand = Subcommand {
         SPENT,
         Argument {
             name: "whole",
-            help: "Print the whole term each time, in place of what is rewritten",
+            help: "Print the whole term after each rewrite",
             kind: Kind::Flag,
         },
         WIDTH,
@@ -130,7 +145,7 @@ const TRACE: Subcommand = Subcommand {
     ],
 };
 
-/// The subcommand `aterm`.
+/// The command `aterm`.
 const ATERM: Subcommand = Subcommand {
     name: "aterm",
     about: "Print an ATerm in its shortest form",
@@ -138,35 +153,35 @@ const ATERM: Subcommand = Subcommand {
     arguments: &[FILE, EXPLAIN, INDENT],
 };
 
-/// The subcommand `share`.
+/// The command `share`.
 const SHARE: Subcommand = Subcommand {
     name: "share",
-    about: "Print an ATerm and how many cells it takes with equal parts shared",
+    about: "Print an ATerm and its size in store cells",
     after_help: "Example: echo 'f(a,a)' | recw share",
     arguments: &[
         FILE,
         EXPLAIN,
         Argument {
             name: "dot",
-            help: "Print the graph of its parts in their place, for Graphviz",
+            help: "Print a graph of its cells for Graphviz instead",
             kind: Kind::Flag,
         },
         NODES,
     ],
 };
 
-/// The subcommand `match`.
+/// The command `match`.
 const MATCH: Subcommand = Subcommand {
     name: "match",
-    about: "Print what a pattern binds in an ATerm, or that it does not match",
+    about: "Match an ATerm against a pattern and print the bindings",
     after_help: "Placeholders: <term>, <int>, <str>, <appl>, <placeholder>, <list>.\n\
-         Give a pattern that begins with - a blank before it: ' -7'.\n\n\
+         Write a pattern that begins with - with a space before it: ' -7'.\n\n\
          Example: echo 'f(1,2,3)' | recw match 'f(<int>,<list>)'",
     arguments: &[
         PATTERN,
         Argument {
             name: "test",
-            help: "End with status 1 where it does not match, 2 where a text is refused",
+            help: "Exit with status 1 for no match, 2 for a rejected input",
             kind: Kind::Flag,
         },
         FILE,
@@ -174,11 +189,11 @@ const MATCH: Subcommand = Subcommand {
     ],
 };
 
-/// The subcommand `make`.
+/// The command `make`.
 const MAKE: Subcommand = Subcommand {
     name: "make",
-    about: "Print a pattern with arguments in place of its placeholders",
-    after_help: "Give a pattern that begins with - a blank before it: ' -7'.\n\n\
+    about: "Build an ATerm from a pattern and arguments",
+    after_help: "Write a pattern that begins with - with a space before it: ' -7'.\n\n\
          Example: recw make 'f(<int>,<list>)' '[1,[2,3]]'",
     arguments: &[
         PATTERN,
@@ -191,55 +206,97 @@ const MAKE: Subcommand = Subcommand {
     ],
 };
 
-/// The subcommand `check`.
+/// The command `check`.
 const CHECK: Subcommand = Subcommand {
     name: "check",
-    about: "Tell all places at which specifications break a rule, and warn of likely mistakes",
-    after_help: "Each line is FILE:LINE:COL: RULE: words. Warnings end with status 0.\n\n\
+    about: "Report errors and likely mistakes in specifications",
+    after_help: "Each line is FILE:LINE:COL: SEVERITY: MESSAGE [CODE]. Warnings alone have \
+         status 0.\n\n\
          Example: recw check add.rec",
     arguments: &[
         Argument {
             name: "SPEC",
-            help: "Files of specifications, or -",
+            help: "Specification files, or -",
             kind: Kind::Several,
         },
         Argument {
             name: "strict",
-            help: "End with status 1 where there is a warning",
+            help: "Exit with status 1 if there is a warning",
             kind: Kind::Flag,
         },
+        JOIN_CHECKED,
+        FORMAT,
+        EXPLAIN_FINDINGS,
     ],
 };
 
-/// The command without the program's name before its words.
+/// The command `uses`.
+const USES: Subcommand = Subcommand {
+    name: "uses",
+    about: "Print what each word of a specification names",
+    after_help: "Each line is FILE:LINE:COL: KIND WORD: LINE:COL: SORTS, with the location of the\n\
+         word's declaration, or - if it has none.\n\n\
+         Example: recw uses --at 7:3 add.rec",
+    arguments: &[
+        Argument {
+            name: "SPEC",
+            help: "Specification file, or - [default: standard input]",
+            kind: Kind::Word,
+        },
+        AT,
+    ],
+};
+
+/// The command `join`.
+const JOINED: Subcommand = Subcommand {
+    name: "join",
+    about: "Join specifications into one",
+    after_help: "The sections are merged in order, under the name of the last specification. Each\n\
+         part follows a comment with the name of its file.\n\n\
+         Example: recw join nat.rec main.rec | recw eval",
+    arguments: &[Argument {
+        name: "SPEC",
+        help: "Specification files, or -",
+        kind: Kind::Several,
+    }],
+};
+
+/// Makes the parser of the command line. Its input does not include the program's name.
 pub fn command<'a>(alloc: Global) -> Result<Command<'a>, AllocError> {
-    let subcommands = subcommands_of(alloc, table())?;
+    let mut subcommands = Vec::new(alloc);
+    push_subcommands(alloc, on_terms(), &mut subcommands)?;
+    push_subcommands(alloc, on_specifications(), &mut subcommands)?;
     name_command(bare_command(alloc).subcommands(subcommands))
 }
 
-/// The command with its name, where there is memory for both.
+/// Sets the program's name in usage lines.
 fn name_command(command: Result<Command<'_>, AllocError>) -> Result<Command<'_>, AllocError> {
     command?.bin_name("recw")
 }
 
-/// The table of the subcommands.
-fn table() -> &'static [Subcommand] {
-    &SUBCOMMANDS
+/// Returns the table of the commands on terms.
+fn on_terms() -> &'static [Subcommand] {
+    &ON_TERMS
 }
 
-/// These subcommands, in their order.
-fn subcommands_of<'a>(
+/// Returns the table of the commands on specifications.
+fn on_specifications() -> &'static [Subcommand] {
+    &ON_SPECIFICATIONS
+}
+
+/// Makes these commands, in their order, and adds them to `made`.
+fn push_subcommands<'a>(
     alloc: Global,
     subcommands: &[Subcommand],
-) -> Result<Vec<Command<'a>>, AllocError> {
-    let mut made = Vec::new(alloc);
+    made: &mut Vec<Command<'a>>,
+) -> Result<(), AllocError> {
     for subcommand in subcommands {
         made.push(subcommand_of(alloc, *subcommand)?)?;
     }
-    Ok(made)
+    Ok(())
 }
 
-/// A subcommand with its arguments.
+/// Makes a command with its arguments.
 fn subcommand_of<'a>(alloc: Global, subcommand: Subcommand) -> Result<Command<'a>, AllocError> {
     let arguments = arguments_of(alloc, subcommand.arguments)?;
     Command::new(alloc, subcommand.name)
@@ -248,15 +305,20 @@ fn subcommand_of<'a>(alloc: Global, subcommand: Subcommand) -> Result<Command<'a
         .args(arguments)
 }
 
-/// The command without its subcommands and its name.
+/// Makes the parser without its commands, and with the text of `--help`.
 fn bare_command<'a>(alloc: Global) -> Command<'a> {
     Command::new(alloc, "recw")
-        .about("Evaluate REC specifications, and read ATerms")
+        .about("Evaluate REC specifications and process annotated terms (ATerms)")
         .after_help(
-            "With no arguments, recw evaluates the specification on standard input.\n\n\
-             Exit status: 0 done, 1 the text was refused, 2 wrong arguments,\n\
-             3 out of memory or cells, or too deep, 4 a read or a write failed.\n\n\
-             recw help refusals says what each refusal means; --explain shows where it stands.",
+            "Without arguments, recw evaluates the specification on standard input.\n\n\
+             Exit status:\n  \
+             0  done\n  \
+             1  input rejected; see also match --test and check --strict\n  \
+             2  usage error\n  \
+             3  out of memory, out of cells or call-depth limit reached\n  \
+             4  read or write error\n  \
+             5  see --limit-status and --stuck of recw eval\n\n\
+             Run 'recw help refusals' for a list of error codes, 'recw help S5' for one.",
         )
         .no_binary_name(true)
         .version(VERSION)

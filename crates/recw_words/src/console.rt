@@ -1,30 +1,32 @@
-//! Standard error as somebody reads it.
+//! A writer for standard error that makes control characters visible.
 
 use std::io;
 use std::io::Write;
 
-/// Who reads what is told.
+/// Describes the reader of standard error.
 pub trait Audience {
-    /// Whether all is to be explained, also where that was not asked for.
+    /// Returns whether explanations are wanted even without `--explain`, as on a terminal.
     fn is_curious(&self) -> bool;
 }
 
-/// A writer that shows control bytes by their numbers where somebody reads it who is curious.
+/// A writer that shows control characters by their numbers if its audience is curious, so that a
+/// name in an input cannot control the terminal.
 #[derive(Drop)]
 pub struct Console<W> {
-    /// The writer that is asked.
+    /// The wrapped writer.
     output: W,
-    /// Whether somebody reads it.
+    /// Whether control characters are shown by their numbers.
     is_curious: bool,
-    /// Whether the byte before may begin a control character of two bytes, and was held back.
+    /// Whether the last byte may be the first of a control character of two bytes, and was held
+    /// back.
     is_held: bool,
 }
 
-/// The byte with which each control character of two bytes begins.
+/// The first byte of each control character of two bytes.
 const BEGINNING: u8 = 0xC2;
 
 impl<W: Write> Console<W> {
-    /// A writer to which nothing was written.
+    /// Returns a wrapper of `output` that has held nothing back.
     pub fn new(output: W, is_curious: bool) -> Console<W> {
         Console {
             output,
@@ -33,8 +35,8 @@ impl<W: Write> Console<W> {
         }
     }
 
-    /// Writes the first byte by its number where it is a control byte, and else the bytes before
-    /// the next that may be one.
+    /// Writes the first byte by its number if it is part of a control character, and otherwise the
+    /// bytes before the next one that may be. Returns the number of bytes that were used.
     fn write_front(&mut self, bytes: &[u8], first: u8) -> io::Result<usize> {
         if first == BEGINNING && !self.is_held {
             self.is_held = true;
@@ -49,7 +51,7 @@ impl<W: Write> Console<W> {
         self.output.write(front_of(bytes))
     }
 
-    /// Writes the byte that was held back, where there is one.
+    /// Writes the byte that was held back, if there is one.
     fn hand_on(&mut self) -> io::Result<()> {
         if !self.is_held {
             return Ok(());
@@ -59,7 +61,8 @@ impl<W: Write> Console<W> {
     }
 }
 
-/// The first byte, and those behind it before the next that may be a control byte.
+/// Returns the first byte and those after it, up to the next one that may be part of a control
+/// character.
 fn front_of(bytes: &[u8]) -> &[u8] {
     let plain = bytes.iter().skip(1);
     let plain = plain.take_while(|byte| !is_control(**byte) && **byte != BEGINNING);
@@ -67,18 +70,18 @@ fn front_of(bytes: &[u8]) -> &[u8] {
     front
 }
 
-/// Whether a byte is a control character that is neither a line's end nor a tab.
+/// Returns whether a byte is a control character other than a line feed or a tab.
 fn is_control(byte: u8) -> bool {
     byte.is_ascii_control() && byte != b'\n' && byte != b'\t'
 }
 
-/// Whether a byte may be the second one of a control character of two.
+/// Returns whether a byte may be the second one of a control character of two bytes.
 fn is_second(byte: u8) -> bool {
     matches!(byte, 0x80..=0x9F)
 }
 
 impl<W: Write + Drop> Console<W> {
-    /// The writer.
+    /// Returns the wrapped writer.
     pub fn into_inner(self) -> W {
         self.output
     }

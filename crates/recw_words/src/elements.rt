@@ -1,8 +1,8 @@
-//! The parts of a given term, as its text has them.
+//! The subterms of an input term, with their offsets in its text.
 
 use std::alloc::{AllocError, Global};
 
-/// What a part of a given term is.
+/// The kind of a part.
 #[derive(Clone, Copy, PartialEq, Eq)]
 pub enum Kind {
     /// An application of an unquoted name.
@@ -17,63 +17,64 @@ pub enum Kind {
     Placeholder,
 }
 
-/// The term itself, one of its arguments, of their arguments, and so on.
+/// A part of an input term: the term itself, or a subterm that is reached through arguments.
+/// Elements of lists and annotations are not parts.
 #[derive(Clone, Copy, Drop)]
 pub struct Part<'a> {
-    /// What it is.
+    /// Its kind.
     pub kind: Kind,
-    /// The bytes of its name, without quotes, or of the integer.
+    /// Its name without quotes, or the digits of an integer.
     pub name: &'a [u8],
-    /// Where it begins in the text.
+    /// Its offset in the text.
     pub at: usize,
-    /// How many arguments it has.
+    /// Its number of arguments.
     pub count: usize,
     /// Whether it has annotations.
     pub is_annotated: bool,
-    /// Of which part it is an argument, and how many arguments stand before it.
+    /// The index of the part whose argument it is, and the argument's index.
     pub parent: Option<(usize, usize)>,
 }
 
-/// Which term of a text is meant.
+/// The term of a text that is examined.
 #[derive(Clone, Copy)]
 pub enum Which {
-    /// The element of the list before which so many others stand.
+    /// The element of the list with this index, from 0.
     Element(usize),
     /// The whole text.
     Whole,
 }
 
-/// The parts of a term in a text that keeps to the grammar, each before its arguments.
+/// Returns the parts of a term in a syntactically correct text. A part comes before its arguments.
 pub fn parts_of(alloc: Global, text: &[u8], which: Which) -> Result<Vec<Part<'_>>, AllocError> {
     let mut walk = Walk::new(alloc, which);
     walk.take_all(text)?;
     Ok(walk.parts)
 }
 
-/// A token of an annotated term.
+/// A token of the ATerm grammar.
 #[derive(Clone, Copy)]
-enum Token<'a> {
+pub enum Token<'a> {
     /// An integer.
     Integer(&'a [u8]),
-    /// A name, and whether it is quoted.
+    /// A name, quoted or not.
     Name(Kind, &'a [u8]),
-    /// Any other.
+    /// Any other token, by its first byte.
     Mark(u8),
 }
 
-/// A token with what stands around it.
+/// A token with its location.
 #[derive(Clone, Copy)]
-struct Lexeme<'a> {
+pub struct Lexeme<'a> {
     /// The token.
-    token: Token<'a>,
-    /// The text from the token on.
-    from: &'a [u8],
-    /// The text behind it.
-    behind: &'a [u8],
+    pub token: Token<'a>,
+    /// The text from its first byte on.
+    pub from: &'a [u8],
+    /// The text after it.
+    pub behind: &'a [u8],
 }
 
-/// The first token of a text, where there is one.
-fn next_lexeme(text: &[u8]) -> Option<Lexeme<'_>> {
+/// Returns the first token of a text, if there is one.
+pub fn next_lexeme(text: &[u8]) -> Option<Lexeme<'_>> {
     let from = without_layout(text);
     let (token, length) = first_token(from, *from.first()?)?;
     let (_, behind) = from.split_at(length.min(from.len()));
@@ -84,14 +85,14 @@ fn next_lexeme(text: &[u8]) -> Option<Lexeme<'_>> {
     })
 }
 
-/// A text from its first byte on that does not only stand between tokens.
+/// Skips layout at the start of a text.
 fn without_layout(text: &[u8]) -> &[u8] {
     let blanks = text.iter().take_while(|byte| is_layout(**byte)).count();
     let (_, from) = text.split_at(blanks.min(text.len()));
     from
 }
 
-/// The token with which a text begins, of which this is the first byte, and how many bytes it has.
+/// Returns the token at the start of a text, whose first byte is `first`, and its length.
 fn first_token(text: &[u8], first: u8) -> Option<(Token<'_>, usize)> {
     match first {
         b'"' => quoted_name(text),
@@ -101,24 +102,24 @@ fn first_token(text: &[u8], first: u8) -> Option<(Token<'_>, usize)> {
     }
 }
 
-/// An integer, and how many bytes it has.
+/// Returns the integer at the start of a text, and its length.
 fn integer(text: &[u8]) -> (Token<'_>, usize) {
     let (word, _) = text.split_at(digits_end(text).min(text.len()));
     (Token::Integer(word), word.len())
 }
 
-/// An unquoted name, and how many bytes it has.
+/// Returns the unquoted name at the start of a text, and its length.
 fn unquoted_name(text: &[u8]) -> (Token<'_>, usize) {
     let (word, _) = text.split_at(name_end(text).min(text.len()));
     (Token::Name(Kind::Plain, word), word.len())
 }
 
-/// Whether a byte stands between tokens.
+/// Returns whether a byte is layout.
 fn is_layout(byte: u8) -> bool {
     matches!(byte, b' ' | b'\t' | b'\n' | b'\r')
 }
 
-/// How many bytes a quoted name has with its quotes, and the name.
+/// Returns the quoted name at the start of a text, and its length with the quotes.
 fn quoted_name(from: &[u8]) -> Option<(Token<'_>, usize)> {
     let (_, inside) = from.split_at(from.len().min(1));
     let length = quoted_length(inside)?;
@@ -126,7 +127,7 @@ fn quoted_name(from: &[u8]) -> Option<(Token<'_>, usize)> {
     Some((Token::Name(Kind::Quoted, name), length.saturating_add(2)))
 }
 
-/// How many bytes stand before the quote that ends a name.
+/// Returns the number of bytes before the closing quote.
 fn quoted_length(text: &[u8]) -> Option<usize> {
     let mut is_escaped = false;
     for (i, byte) in text.iter().enumerate() {
@@ -141,7 +142,7 @@ fn quoted_length(text: &[u8]) -> Option<usize> {
     None
 }
 
-/// How many bytes an integer has.
+/// Returns the length of an integer.
 fn digits_end(from: &[u8]) -> usize {
     let digits = from.iter().skip(1).position(|byte| !byte.is_ascii_digit());
     match digits {
@@ -150,13 +151,13 @@ fn digits_end(from: &[u8]) -> usize {
     }
 }
 
-/// How many bytes an unquoted name has.
+/// Returns the length of an unquoted name.
 fn name_end(from: &[u8]) -> usize {
     let end = from.iter().position(|byte| !is_name_byte(*byte));
     end.unwrap_or(from.len())
 }
 
-/// Whether a byte may stand in an unquoted name.
+/// Returns whether an unquoted name may contain a byte.
 fn is_name_byte(byte: u8) -> bool {
     byte.is_ascii_alphanumeric() || matches!(byte, b'_' | b'-' | b'+' | b'*' | b'$' | b'.')
 }
@@ -166,24 +167,26 @@ fn is_name_byte(byte: u8) -> bool {
 struct Walk<'a> {
     /// The parts so far.
     parts: Vec<Part<'a>>,
-    /// Which of them are applications whose arguments are not over.
+    /// The indices of the applications whose argument lists are open, innermost last.
     open: Vec<usize>,
-    /// Which of them was over last.
+    /// The index of the part that was completed last.
     last: usize,
-    /// Whether the token before was its name.
+    /// Whether the previous token was the name of that part.
     is_named: bool,
-    /// How many brackets are open within what has no parts.
+    /// The number of open brackets inside a list or annotation, whose tokens are skipped.
     skipped: usize,
-    /// How many elements of the list stand before the term.
+    /// The part whose annotation braces were opened by the previous token.
+    braced: Option<usize>,
+    /// The number of list elements that remain before the term.
     before: usize,
-    /// Whether the bracket of the list was not met.
+    /// Whether the opening bracket of the list is still to come.
     is_outside: bool,
-    /// Whether the term is over.
+    /// Whether the term is complete.
     is_over: bool,
 }
 
 impl<'a> Walk<'a> {
-    /// Before the text.
+    /// Returns a walk before the first token.
     fn new(alloc: Global, which: Which) -> Walk<'a> {
         let (before, is_outside) = match which {
             Which::Element(before) => (before, true),
@@ -195,16 +198,17 @@ impl<'a> Walk<'a> {
             last: 0,
             is_named: false,
             skipped: 0,
+            braced: None,
             before,
             is_outside,
             is_over: false,
         }
     }
 
-    /// Goes over all tokens of a text.
+    /// Reads all tokens of a text.
     fn take_all(&mut self, text: &'a [u8]) -> Result<(), AllocError> {
         let mut rest = text;
-        // each turn but the last takes a byte at least
+        // each pass but the last consumes a byte
         for _ in 0..=text.len() {
             let Some(lexeme) = next_lexeme(rest) else {
                 break;
@@ -216,7 +220,7 @@ impl<'a> Walk<'a> {
         Ok(())
     }
 
-    /// Goes on by the token at `at`.
+    /// Processes the token at offset `at`.
     fn take(&mut self, token: Token<'a>, at: usize) -> Result<(), AllocError> {
         if self.is_over {
             return Ok(());
@@ -226,13 +230,14 @@ impl<'a> Walk<'a> {
             return Ok(());
         }
         if self.skipped > 0 {
+            self.annotate(token);
             self.skip(token);
             return Ok(());
         }
         self.take_outside(token, at)
     }
 
-    /// The same outside of what has no parts.
+    /// Processes a token that is not inside a list or annotation.
     fn take_outside(&mut self, token: Token<'a>, at: usize) -> Result<(), AllocError> {
         let was_named = self.is_named;
         self.is_named = matches!(token, Token::Name(_, _));
@@ -249,7 +254,7 @@ impl<'a> Walk<'a> {
         }
     }
 
-    /// Goes on within what has no parts.
+    /// Skips a token inside a list or annotation.
     fn skip(&mut self, token: Token<'a>) {
         match token {
             Token::Mark(b'(' | b'[' | b'<' | b'{') => {
@@ -262,7 +267,7 @@ impl<'a> Walk<'a> {
         }
     }
 
-    /// A part begins.
+    /// Adds a part.
     fn add(&mut self, kind: Kind, name: &'a [u8], at: usize) -> Result<(), AllocError> {
         let parent = self.next_argument();
         self.last = self.parts.len();
@@ -277,20 +282,21 @@ impl<'a> Walk<'a> {
         Ok(())
     }
 
-    /// One argument more of the innermost application.
+    /// Counts one more argument of the innermost open application, and returns its index with the
+    /// argument's index.
     fn next_argument(&mut self) -> Option<(usize, usize)> {
         let parent = self.open.last().copied()?;
         let before = count_argument(&mut self.parts, parent)?;
         Some((parent, before))
     }
 
-    /// A part begins that has none itself.
+    /// Adds a part without arguments.
     fn add_closed(&mut self, kind: Kind, at: usize) -> Result<(), AllocError> {
         self.skipped = 1;
         self.add(kind, &[], at)
     }
 
-    /// The arguments begin of the name before, or of none.
+    /// Opens the argument list of the previous name, or of an application with an empty name.
     fn begin_arguments(&mut self, is_named: bool, at: usize) -> Result<(), AllocError> {
         if !is_named {
             self.add(Kind::Plain, &[], at)?;
@@ -299,11 +305,14 @@ impl<'a> Walk<'a> {
         Ok(())
     }
 
-    /// Arguments or the term are over, or annotations begin.
+    /// Processes a mark that ends arguments or the term, or that begins annotations.
     fn take_mark(&mut self, mark: u8) {
         match mark {
             b')' => self.last = self.open.pop().unwrap_or(self.last),
-            b'{' => self.annotate(),
+            b'{' => {
+                self.skipped = 1;
+                self.braced = Some(self.last);
+            }
             b',' if !self.open.is_empty() => {}
             b',' if self.before > 0 => {
                 self.before = self.before.saturating_sub(1);
@@ -313,16 +322,19 @@ impl<'a> Walk<'a> {
         }
     }
 
-    /// The annotations begin of the part that was over last.
-    fn annotate(&mut self) {
-        self.skipped = 1;
-        if let Some(part) = self.parts.get_mut(self.last) {
-            part.is_annotated = true;
+    /// Marks the part whose braces were just opened as annotated if this token begins an
+    /// annotation. Empty braces are not annotations.
+    fn annotate(&mut self, token: Token<'a>) {
+        let Some(at) = self.braced.take() else {
+            return;
+        };
+        if let Some(part) = self.parts.get_mut(at) {
+            part.is_annotated = !matches!(token, Token::Mark(b'}'));
         }
     }
 }
 
-/// One argument more of the part before which so many stand; how many it had, where it is there.
+/// Counts one more argument of the part with this index. Returns the number before.
 fn count_argument(parts: &mut [Part<'_>], at: usize) -> Option<usize> {
     let part = parts.get_mut(at)?;
     let before = part.count;

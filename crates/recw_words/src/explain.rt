@@ -1,67 +1,101 @@
-//! What is told of a refusal beside its line: where it stands, and what is wrong, in words.
+//! The explanation of an error: its location, a description, and the source line.
 
 use crate::broken_part::{first_broken, write_part};
+use crate::diagnosis::{Subject, diagnose, syntax_at};
 use crate::elements::{Part, Which, parts_of};
+use crate::hint::Hint;
 use crate::item::{Item, write_item};
-use crate::keywords::{Misspelling, find_misspelling};
-use crate::named::write_names;
+use crate::names::declared_spelling;
 use crate::place::{Spot, place_in, show_line};
 use crate::refusals::words_of;
 use crate::text_name::TextName;
+use crate::unplaced::{Cause, cause_of};
 use rec_syntax::{Syntax, read_spec};
 use rx_run::Reason;
 use std::alloc::Global;
 use std::io;
 use std::io::{Error, Write};
 
-/// A refusal of a text, and what the text is called.
+/// An error code with the name of the rejected text.
 #[derive(Clone, Copy)]
 pub struct NamedRefusal<'a> {
-    /// What the text is called.
+    /// The name of the text.
     pub text: TextName<'a>,
-    /// Why it is refused.
+    /// The error.
     pub reason: Reason,
 }
 
-/// Tells of a refusal at a place of a text, and which words are expected there.
-pub fn explain_place<W: Write>(
+/// Explains an error that has an offset: location, description, details, expected tokens, the
+/// source line with a caret, and a hint if there is one.
+pub fn explain_place<'a, W: Write>(
     alloc: Global,
+    refusal: NamedRefusal<'_>,
+    text: &'a [u8],
+    at: usize,
+    expected: &'a [&'static str],
+    out: &mut W,
+) -> io::Result<()> {
+    match syntax_at(alloc, refusal.reason, text) {
+        Some(syntax) => {
+            let syntax = Some(&syntax);
+            let subject = Subject {
+                text,
+                syntax,
+                expected,
+            };
+            explain_subject(alloc, refusal, &subject, at, out)
+        }
+        None => {
+            let syntax = None;
+            let subject = Subject {
+                text,
+                syntax,
+                expected,
+            };
+            explain_subject(alloc, refusal, &subject, at, out)
+        }
+    }
+}
+
+/// Explains an error in a part of a specification: location, description, and the source line with
+/// a caret. The details of [`explain_place`] need the whole specification.
+pub fn explain_part<W: Write>(
     refusal: NamedRefusal<'_>,
     text: &[u8],
     at: usize,
-    expected: &[&str],
     out: &mut W,
 ) -> io::Result<()> {
     let spot = place_in(text, at);
     explain_spot(refusal, &spot, out)?;
-    write_about(alloc, refusal.reason, text, at, out)?;
-    write_expected(expected, out)?;
-    show_below(&spot, out)?;
-    explain_misspelling(alloc, refusal, text, at, out)
+    show_below(&spot, out)
 }
 
-/// Tells what stands at the place of a refusal, behind a line's other words.
-fn write_about<W: Write>(
+/// Explains an error at an offset of a text.
+fn explain_subject<W: Write>(
     alloc: Global,
-    reason: Reason,
-    text: &[u8],
+    refusal: NamedRefusal<'_>,
+    subject: &Subject<'_, '_>,
     at: usize,
     out: &mut W,
 ) -> io::Result<()> {
-    match reason {
-        Reason::Grammar { at: _ } | Reason::Outside { at: _ } => write_here(text, at, out),
-        Reason::Rule { number, at: _ } => write_names(alloc, number, text, at, out),
-        _ => Ok(()),
+    let spot = place_in(subject.text, at);
+    let diagnosis = diagnose(alloc, refusal.reason, at, subject);
+    explain_spot(refusal, &spot, out)?;
+    diagnosis.write(b"; ", out)?;
+    show_below(&spot, out)?;
+    match diagnosis.hint {
+        Some(hint) => show_hint(refusal.text, subject.text, hint, out),
+        None => Ok(()),
     }
 }
 
-/// Ends a line, and shows the place below it.
+/// Ends a line, and writes the source line with a caret.
 fn show_below<W: Write>(spot: &Spot<'_>, out: &mut W) -> io::Result<()> {
     out.write_all(b"\n")?;
     show_line(spot, out)
 }
 
-/// Says where a refusal stands, and what is wrong.
+/// Writes the location and the description of an error.
 fn explain_spot<W: Write>(
     refusal: NamedRefusal<'_>,
     spot: &Spot<'_>,
@@ -71,13 +105,13 @@ fn explain_spot<W: Write>(
     explain_reason(refusal.reason, out)
 }
 
-/// Writes a text's name, a line, where the name has none, and a column.
-fn write_spot<W: Write>(text: TextName<'_>, spot: &Spot<'_>, out: &mut W) -> io::Result<()> {
+/// Writes a text's name, the line unless the name includes it, and the column.
+pub fn write_spot<W: Write>(text: TextName<'_>, spot: &Spot<'_>, out: &mut W) -> io::Result<()> {
     text.write(out)?;
     write_numbers(text, spot, out)
 }
 
-/// Writes a line, where the text's name has none, and a column.
+/// Writes the line, unless the text's name includes it, and the column.
 fn write_numbers<W: Write>(text: TextName<'_>, spot: &Spot<'_>, out: &mut W) -> io::Result<()> {
     let Spot { line, column, .. } = *spot;
     match text {
@@ -86,7 +120,7 @@ fn write_numbers<W: Write>(text: TextName<'_>, spot: &Spot<'_>, out: &mut W) -> 
     }
 }
 
-/// Tells of a refusal without a place, and which item of a list it is about, where that is known.
+/// Explains an error without an offset, with the list item that causes it, if that is known.
 pub fn explain_text<W: Write>(
     refusal: NamedRefusal<'_>,
     item: Option<Item>,
@@ -99,19 +133,46 @@ pub fn explain_text<W: Write>(
     out.write_all(b"\n")
 }
 
-/// The texts of an evaluation whose given terms are refused.
+/// Explains an error without an offset of a whole text, with the part of the text that causes it if
+/// that can be found, else with the list item, if that is known.
+pub fn explain_whole<W: Write>(
+    refusal: NamedRefusal<'_>,
+    text: &[u8],
+    item: Option<Item>,
+    out: &mut W,
+) -> io::Result<()> {
+    match cause_of(refusal.reason, text) {
+        Some(cause) => explain_cause(refusal, cause, text, out),
+        None => explain_text(refusal, item, out),
+    }
+}
+
+/// Explains an error with the part of the text that causes it.
+fn explain_cause<W: Write>(
+    refusal: NamedRefusal<'_>,
+    cause: Cause<'_>,
+    text: &[u8],
+    out: &mut W,
+) -> io::Result<()> {
+    let spot = place_in(text, cause.at);
+    explain_spot(refusal, &spot, out)?;
+    cause.write(out)?;
+    show_below(&spot, out)
+}
+
+/// The texts of a run whose input terms are rejected.
 #[derive(Clone, Copy)]
 pub struct Texts<'a> {
     /// The specification.
     pub spec: &'a [u8],
-    /// The given terms.
+    /// The input terms.
     pub terms: &'a [u8],
-    /// Which of them is refused.
+    /// The rejected one.
     pub which: Which,
 }
 
 impl Texts<'_> {
-    /// Which element of a list is refused, where it is one of a list.
+    /// Returns the index of the rejected element, if it is one of a list.
     fn item(&self) -> Option<Item> {
         match self.which {
             Which::Element(at) => Some(Item::Element { at }),
@@ -120,7 +181,7 @@ impl Texts<'_> {
     }
 }
 
-/// Tells of a refusal of a given term, which of its parts breaks the rule, and where that stands.
+/// Explains an error of an input term, with the offset of the part that violates the rule.
 pub fn explain_given<W: Write>(
     alloc: Global,
     refusal: NamedRefusal<'_>,
@@ -133,21 +194,27 @@ pub fn explain_given<W: Write>(
     }
 }
 
-/// The same for a specification that was read.
-fn explain_by<W: Write>(
+/// Explains an error of an input term with the declarations of its specification.
+fn explain_by<'t, W: Write>(
     alloc: Global,
-    syntax: &Syntax,
+    syntax: &'t Syntax,
     refusal: NamedRefusal<'_>,
-    texts: Texts<'_>,
+    texts: Texts<'t>,
     out: &mut W,
 ) -> io::Result<()> {
     match parts_of(alloc, texts.terms, texts.which) {
-        Ok(parts) => explain_among(syntax, parts.as_slice(), refusal, texts, out),
+        Ok(mut parts) => {
+            for part in parts.iter_mut() {
+                part.name = declared_spelling(syntax, part.name);
+            }
+            explain_among(syntax, parts.as_slice(), refusal, texts, out)
+        }
         Err(_) => explain_text(refusal, texts.item(), out),
     }
 }
 
-/// The same for the parts of the term.
+/// Explains an error with the parts of the rejected term. Without a part that violates the rule,
+/// the explanation has no offset.
 fn explain_among<W: Write>(
     syntax: &Syntax,
     parts: &[Part<'_>],
@@ -166,7 +233,7 @@ fn explain_among<W: Write>(
     }
 }
 
-/// Says where a refusal of a given term stands, what is wrong, and in which item of a list.
+/// Writes the location and the description of an error in an input term, and its index in the list.
 fn explain_element<W: Write>(
     refusal: NamedRefusal<'_>,
     item: Option<Item>,
@@ -177,7 +244,7 @@ fn explain_element<W: Write>(
     explain_item(item, out)
 }
 
-/// Tells which item of a list a refusal is about, where that is known.
+/// Writes the list item that causes an error, if it is known.
 fn explain_item<W: Write>(item: Option<Item>, out: &mut W) -> io::Result<()> {
     match item {
         Some(item) => write_item(item, out),
@@ -185,7 +252,7 @@ fn explain_item<W: Write>(item: Option<Item>, out: &mut W) -> io::Result<()> {
     }
 }
 
-/// Tells which stream failed, and what the system says of it.
+/// Writes the name of a stream that failed, and the system's message.
 pub fn explain_trouble<W: Write>(
     alloc: Global,
     name: TextName<'_>,
@@ -199,7 +266,7 @@ pub fn explain_trouble<W: Write>(
     }
 }
 
-/// What the system says of an error, without its number.
+/// Returns the system's message without the error number.
 fn without_number(said: &str) -> &str {
     match said.rsplit_once(" (os error") {
         Some((said, _)) => said,
@@ -207,68 +274,20 @@ fn without_number(said: &str) -> &str {
     }
 }
 
-/// Says what is wrong.
+/// Writes the error code and its description.
 fn explain_reason<W: Write>(reason: Reason, out: &mut W) -> io::Result<()> {
     write!(out, "{reason}: {}", words_of(reason))
 }
 
-/// Names what stands where a text leaves its grammar, where its looks don't tell.
-fn write_here<W: Write>(text: &[u8], at: usize, out: &mut W) -> io::Result<()> {
-    if text.is_empty() {
-        out.write_all(b"; the text is empty")
-    } else if at >= text.len() {
-        out.write_all(b"; the text ends here")
-    } else if at == 0 && text.starts_with(b"\xEF\xBB\xBF") {
-        out.write_all(b"; a byte order mark stands here")
-    } else {
-        Ok(())
-    }
-}
-
-/// Writes what may stand at a place, behind a line's other words.
-fn write_expected<W: Write>(words: &[&str], out: &mut W) -> io::Result<()> {
-    let last = words.len().saturating_sub(1);
-    for (i, word) in words.iter().enumerate() {
-        let before = if i == 0 {
-            "; expected "
-        } else if i == last {
-            " or "
-        } else {
-            ", "
-        };
-        write!(out, "{before}{word}")?;
-    }
-    Ok(())
-}
-
-/// Tells where a reserved word may be misspelt, of a specification that leaves its grammar.
-fn explain_misspelling<W: Write>(
-    alloc: Global,
-    refusal: NamedRefusal<'_>,
-    text: &[u8],
-    at: usize,
-    out: &mut W,
-) -> io::Result<()> {
-    if !matches!(refusal.reason, Reason::Grammar { at: _ }) {
-        return Ok(());
-    }
-    match find_misspelling(alloc, text, at) {
-        Some(misspelling) => show_misspelling(refusal.text, text, misspelling, out),
-        None => Ok(()),
-    }
-}
-
-/// Tells where a reserved word is misspelt.
-fn show_misspelling<W: Write>(
+/// Writes the location of a hint, the hint, and the source line.
+pub fn show_hint<W: Write>(
     name: TextName<'_>,
     text: &[u8],
-    misspelling: Misspelling,
+    hint: Hint,
     out: &mut W,
 ) -> io::Result<()> {
-    let spot = place_in(text, misspelling.word.from);
+    let spot = place_in(text, hint.from);
     write_spot(name, &spot, out)?;
-    let kind = misspelling.kind();
-    let meant = misspelling.meant;
-    writeln!(out, "{kind}; did you mean {meant}?")?;
-    show_line(&spot, out)
+    hint.write(text, out)?;
+    show_below(&spot, out)
 }

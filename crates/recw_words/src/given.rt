@@ -1,20 +1,20 @@
-//! Terms that stand among the words of the command line.
+//! The terms that are given with `-e`.
 
 use std::alloc::{AllocError, Global};
 
-/// Given terms as one text, a list, and where each of them begins in it.
+/// The terms given with `-e`, as the text of one list, and the offset of each of them in it.
 #[derive(Drop)]
 pub struct Given {
     /// The text so far.
     text: Vec<u8>,
-    /// Where each term begins.
+    /// The offset of each term.
     starts: Vec<usize>,
-    /// Whether one of them is no term, with which the text ends.
+    /// Whether one of them is malformed; the text ends with it then.
     is_broken: bool,
 }
 
 impl Given {
-    /// No term.
+    /// Returns a list without terms.
     pub fn new(alloc: Global) -> Given {
         Given {
             text: Vec::new(alloc),
@@ -23,8 +23,8 @@ impl Given {
         }
     }
 
-    /// One word more. Where it is no term, `fault` is the place at which that is found, and the
-    /// text is refused there, whatever words follow.
+    /// Adds a term. If it is malformed, `fault` is the offset of its syntax error. The list is then
+    /// rejected at that offset, whatever terms follow.
     pub fn push(&mut self, word: &str, fault: Option<usize>) -> Result<(), AllocError> {
         if self.is_broken {
             return Ok(());
@@ -39,7 +39,8 @@ impl Given {
         }
     }
 
-    /// The text goes on by what of a word may begin a term, and then by what begins no token.
+    /// Appends the prefix of a malformed term that may begin a term, and then a byte that begins no
+    /// token.
     fn break_off(&mut self, word: &[u8], at: usize) -> Result<(), AllocError> {
         self.is_broken = true;
         let (beginning, _) = word.split_at(at.min(word.len()));
@@ -47,18 +48,17 @@ impl Given {
         self.text.extend_from_slice(b"\0")
     }
 
-    /// The list ends.
+    /// Ends the list.
     pub fn end(&mut self) -> Result<(), AllocError> {
         self.text.extend_from_slice(b"]")
     }
 
-    /// The text.
+    /// Returns the text of the list.
     pub fn text(&self) -> &[u8] {
         self.text.as_slice()
     }
 
-    /// Behind how many words the one stands that has the text's byte at `at`, and how many of its
-    /// bytes stand before that.
+    /// Returns the index of the term that contains offset `at` of the text, and the offset in it.
     pub fn locate(&self, at: usize) -> (usize, usize) {
         let behind = self.starts.iter().filter(|start| **start <= at).count();
         let number = behind.saturating_sub(1);

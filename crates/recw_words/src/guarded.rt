@@ -1,21 +1,21 @@
-//! An output that is asked no more once it has refused.
+//! A writer that is not used again after it has failed.
 
 use std::io;
 use std::io::{Error, ErrorKind, Write};
 
-/// A writer that answers each call with the error of the first that it refused: so a buffer that is
-/// emptied once more where it ends writes nothing behind a fault. An interruption is no refusal
-/// here, as a buffer tries again by itself.
+/// A writer that answers each call after a failure with the error of the first one. So a buffer
+/// that is flushed again when it is dropped writes nothing after a failure. `Interrupted` does not
+/// count as a failure, since buffers try again.
 #[derive(Drop)]
 pub struct Guarded<W> {
-    /// The writer that is asked.
+    /// The wrapped writer.
     output: W,
-    /// Why it refused.
+    /// The first error.
     refusal: Option<Error>,
 }
 
 impl<W> Guarded<W> {
-    /// A writer that has not refused.
+    /// Returns a wrapper of `output` that has not failed.
     pub fn new(output: W) -> Guarded<W> {
         Guarded {
             output,
@@ -23,7 +23,7 @@ impl<W> Guarded<W> {
         }
     }
 
-    /// Keeps why it refused.
+    /// Records an error.
     fn keep(&mut self, error: Error) {
         if !matches!(error.kind(), ErrorKind::Interrupted) {
             self.refusal = Some(error);

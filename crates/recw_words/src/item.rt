@@ -1,24 +1,24 @@
-//! Which item of a list a refusal without a place is about.
+//! The list item that causes an error without an offset.
 
 use std::io;
 use std::io::Write;
 
-/// What is told of the items of a list that is refused.
+/// The item of a rejected list that an explanation names.
 #[derive(Clone, Copy)]
 pub enum Item {
-    /// The first element that is refused has so many before it.
+    /// The element with index `at` is the first that causes the error.
     Element { at: usize },
-    /// There are not as many as are wanted.
+    /// The list has `given` elements, and `wanted` are required.
     Count { wanted: usize, given: usize },
 }
 
-/// Writes what is told of an item, behind a line's other words.
+/// Writes the item, after the rest of a line.
 pub fn write_item<W: Write>(item: Item, out: &mut W) -> io::Result<()> {
     match item {
         Item::Element { at } => {
             let number = at.saturating_add(1);
             write!(out, "; element {number} of the list")
         }
-        Item::Count { wanted, given } => write!(out, "; expected {wanted}, given {given}"),
+        Item::Count { wanted, given } => write!(out, "; expected {wanted}, found {given}"),
     }
 }

@@ -1,111 +1,201 @@
-//! What is told of the names at a place where a specification breaks a rule.
+//! Details about the names at the location of a violated rule of specifications.
 
 use crate::names::{find_sort, find_symbol, find_variable, sort_of, word_at, word_in};
 use crate::near::Nearest;
-use crate::nodes::{Occurrence, Sides, find_sides, find_word, head_of};
+use crate::nodes::{Occurrence, Sides, begins_at, find_sides, find_word, has_word, head_of};
 use crate::place::line_of;
-use rec_syntax::{Declaration, Span, Syntax, Term, read_spec};
-use std::alloc::Global;
+use rec_syntax::{Declaration, Span, Syntax, Term};
 use std::io;
 use std::io::Write;
 
-/// How many sorts are told at most.
+/// The most sorts that a message lists.
 const MOST_SORTS: usize = 20;
 
-/// Tells of the names at the place where a specification breaks the rule of this number, behind a
-/// line's other words; nothing where there is no memory for it.
-pub fn write_names<W: Write>(
-    alloc: Global,
-    rule: u8,
-    text: &[u8],
-    at: usize,
-    out: &mut W,
-) -> io::Result<()> {
-    match read_spec(alloc, text) {
-        Ok(syntax) => write_rule(&syntax, rule, at, out),
-        Err(_) => Ok(()),
-    }
+/// A detail of an error.
+#[derive(Clone, Copy)]
+pub enum Detail<'s> {
+    /// A note on an offset at which nothing is visible.
+    Note(&'static str),
+    /// The line on which a name is declared already, and whether it is that of a symbol and not of
+    /// the same kind.
+    Declared {
+        name: &'s [u8],
+        line: usize,
+        is_symbol: bool,
+    },
+    /// The declared sorts, as words of the text.
+    Sorts {
+        text: &'s [u8],
+        sorts: &'s [Span],
+    },
+    /// The sections that can declare a word.
+    Undeclared {
+        sections: &'static str,
+    },
+    /// The declared and the actual number of arguments of a symbol.
+    Count {
+        symbol: &'s [u8],
+        wanted: usize,
+        given: usize,
+    },
+    /// A variable with arguments.
+    Filled {
+        variable: &'s [u8],
+    },
+    /// An argument of the wrong sort.
+    Argument(Misfit<'s>),
+    /// The sorts of the two sides of a rule or of a condition.
+    Sides {
+        left: &'s [u8],
+        right: &'s [u8],
+    },
 }
 
-/// The same for a specification that was read.
-fn write_rule<W: Write>(syntax: &Syntax, rule: u8, at: usize, out: &mut W) -> io::Result<()> {
+/// Returns the detail of an error `S1` to `S11`, if there is one.
+pub fn detail_of(syntax: &Syntax, rule: u8, at: usize) -> Option<Detail<'_>> {
+    let word = word_at(syntax.source(), at);
     match rule {
-        6 => write_count(syntax, at, out),
-        7 => write_argument(syntax, at, out),
-        9 => write_sides(syntax, at, out),
-        _ => write_word(syntax, rule, word_at(syntax.source(), at), out),
+        1 => Some(declared(syntax, find_sort(syntax, word)?, false)),
+        2 => Some(declared(syntax, find_symbol(syntax, word)?.name, false)),
+        3 => other_use(syntax, word),
+        4 => Some(Detail::Sorts {
+            text: syntax.source(),
+            sorts: syntax.sorts(),
+        }),
+        5 => Some(Detail::Undeclared {
+            sections: sections_of(syntax, at),
+        }),
+        6 => count_of(syntax, word, at),
+        7 => Some(Detail::Argument(misfit_at(syntax, at)?)),
+        9 => sides_of(syntax, at),
+        _ => None,
     }
 }
 
-/// The same of a rule that is about one word.
-fn write_word<W: Write>(syntax: &Syntax, rule: u8, word: &[u8], out: &mut W) -> io::Result<()> {
-    match rule {
-        1 => write_first(syntax, find_sort(syntax, word), out),
-        2 => write_first(syntax, name_of(find_symbol(syntax, word)), out),
-        3 => write_other_use(syntax, word, out),
-        4 => write_sorts(syntax, out),
-        5 => write_nearest(nearest_name(syntax, word), out),
-        _ => Ok(()),
-    }
-}
-
-/// The name of what is declared.
-fn name_of(declaration: Option<&Declaration>) -> Option<Span> {
-    match declaration {
-        Some(declaration) => Some(declaration.name),
-        None => None,
-    }
-}
-
-/// Tells in which line a name was declared first.
-fn write_first<W: Write>(syntax: &Syntax, first: Option<Span>, out: &mut W) -> io::Result<()> {
-    match first {
-        Some(name) => {
-            out.write_all(b"; ")?;
-            write_declared(syntax, name, out)
-        }
-        None => Ok(()),
-    }
-}
-
-/// Tells in which line a name is declared.
-fn write_declared<W: Write>(syntax: &Syntax, name: Span, out: &mut W) -> io::Result<()> {
+/// Returns the detail of a name that is declared already.
+fn declared(syntax: &Syntax, name: Span, is_symbol: bool) -> Detail<'_> {
     let text = syntax.source();
-    out.write_all(word_in(text, name))?;
-    let line = line_of(text, name.from);
-    write!(out, " is declared in line {line}")
-}
-
-/// Tells which symbol or which variable of this name there is.
-fn write_other_use<W: Write>(syntax: &Syntax, word: &[u8], out: &mut W) -> io::Result<()> {
-    match find_symbol(syntax, word) {
-        Some(symbol) => {
-            out.write_all(b"; the symbol ")?;
-            write_declared(syntax, symbol.name, out)
-        }
-        None => match find_variable(syntax, word) {
-            Some((name, _)) => write_first(syntax, Some(name), out),
-            None => Ok(()),
-        },
+    Detail::Declared {
+        name: word_in(text, name),
+        line: line_of(text, name.from),
+        is_symbol,
     }
 }
 
-/// Tells which sorts there are.
-fn write_sorts<W: Write>(syntax: &Syntax, out: &mut W) -> io::Result<()> {
-    let sorts = syntax.sorts();
+/// Returns the symbol or the variable that has this name already.
+fn other_use<'s>(syntax: &'s Syntax, word: &[u8]) -> Option<Detail<'s>> {
+    match find_symbol(syntax, word) {
+        Some(symbol) => Some(declared(syntax, symbol.name, true)),
+        None => Some(declared(syntax, find_variable(syntax, word)?.0, false)),
+    }
+}
+
+/// Returns the sections that can declare the word of a term at this offset.
+fn sections_of(syntax: &Syntax, at: usize) -> &'static str {
+    if is_defined_at(syntax, at) {
+        return "OPNS";
+    }
+    match count_at(syntax, at) {
+        Some(0) if !is_in_eval(syntax, at) => "VARS, CONS or OPNS",
+        _ => "CONS or OPNS",
+    }
+}
+
+/// Returns whether a left-hand side begins at this offset.
+fn is_defined_at(syntax: &Syntax, at: usize) -> bool {
+    let mut rules = syntax.rules().iter();
+    rules.any(|rule| begins_at(&rule.left, at))
+}
+
+/// Returns whether a term to evaluate has a word at this offset.
+fn is_in_eval(syntax: &Syntax, at: usize) -> bool {
+    let mut terms = syntax.terms().iter();
+    terms.any(|term| has_word(term, at))
+}
+
+/// Returns the number of arguments of the word at this offset.
+fn count_at(syntax: &Syntax, at: usize) -> Option<usize> {
+    Some(find_word(syntax, at)?.node()?.count)
+}
+
+/// Returns the declared and the actual number of arguments of a word.
+fn count_of<'s>(syntax: &'s Syntax, word: &'s [u8], at: usize) -> Option<Detail<'s>> {
+    let given = count_at(syntax, at)?;
+    match find_symbol(syntax, word) {
+        Some(symbol) => Some(Detail::Count {
+            symbol: word,
+            wanted: symbol.arguments.len(),
+            given,
+        }),
+        None => Some(Detail::Filled { variable: word }),
+    }
+}
+
+/// Returns the sorts of the two sides of the rule or of the condition that begins at this offset.
+fn sides_of(syntax: &Syntax, at: usize) -> Option<Detail<'_>> {
+    let Sides { left, right } = find_sides(syntax, at)?;
+    Some(Detail::Sides {
+        left: side_sort(syntax, left)?,
+        right: side_sort(syntax, right)?,
+    })
+}
+
+/// Returns the sort of a side.
+fn side_sort<'s>(syntax: &'s Syntax, side: &Term) -> Option<&'s [u8]> {
+    sort_of(syntax, word_in(syntax.source(), head_of(side)?.word))
+}
+
+impl Detail<'_> {
+    /// Writes the detail.
+    pub fn write<W: Write>(&self, out: &mut W) -> io::Result<()> {
+        match *self {
+            Detail::Note(note) => out.write_all(note.as_bytes()),
+            Detail::Declared {
+                name,
+                line,
+                is_symbol,
+            } => {
+                write_behind(if is_symbol { b"the symbol " } else { b"" }, name, out)?;
+                write!(out, " is already declared on line {line}")
+            }
+            Detail::Sorts { text, sorts } => write_sorts(text, sorts, out),
+            Detail::Undeclared { sections } => write!(out, "declare it in {sections}"),
+            Detail::Count {
+                symbol,
+                wanted,
+                given,
+            } => write_takes(symbol, wanted, given, out),
+            Detail::Filled { variable } => {
+                write_behind(b"the variable ", variable, out)?;
+                out.write_all(b" takes no arguments")
+            }
+            Detail::Argument(misfit) => write_misfit(misfit, out),
+            Detail::Sides { left, right } => write_sides(left, right, out),
+        }
+    }
+}
+
+/// Writes a text and a name after it.
+fn write_behind<W: Write>(text: &[u8], name: &[u8], out: &mut W) -> io::Result<()> {
+    out.write_all(text)?;
+    out.write_all(name)
+}
+
+/// Writes the declared sorts.
+fn write_sorts<W: Write>(text: &[u8], sorts: &[Span], out: &mut W) -> io::Result<()> {
     out.write_all(match sorts.len() {
-        0 => b"; there are no sorts",
-        1 => b"; the only sort is",
-        _ => b"; the sorts are",
+        0 => b"no sorts are declared",
+        1 => b"the only declared sort is",
+        _ => b"declared sorts are",
     })?;
-    write_some(syntax.source(), sorts, out)?;
+    write_some(text, sorts, out)?;
     match sorts.len().saturating_sub(MOST_SORTS) {
         0 => Ok(()),
         more => write!(out, " and {more} more"),
     }
 }
 
-/// Writes the first of some words, with commas between.
+/// Writes the first of these words, separated by commas.
 fn write_some<W: Write>(text: &[u8], words: &[Span], out: &mut W) -> io::Result<()> {
     let mut before = b" ".as_slice();
     for word in words.iter().take(MOST_SORTS) {
@@ -115,8 +205,31 @@ fn write_some<W: Write>(text: &[u8], words: &[Span], out: &mut W) -> io::Result<
     Ok(())
 }
 
-/// The symbol or variable whose name is the nearest to a word.
-fn nearest_name<'s>(syntax: &'s Syntax, word: &'s [u8]) -> Option<&'s [u8]> {
+/// Writes the declared and the actual number of arguments of a symbol.
+fn write_takes<W: Write>(name: &[u8], wanted: usize, given: usize, out: &mut W) -> io::Result<()> {
+    out.write_all(name)?;
+    let noun = if wanted == 1 { "argument" } else { "arguments" };
+    write!(out, " takes {wanted} {noun}, found {given}")
+}
+
+/// Writes the declared and the actual sort of an argument, with its symbol and its number.
+fn write_misfit<W: Write>(misfit: Misfit<'_>, out: &mut W) -> io::Result<()> {
+    let number = misfit.index.saturating_add(1);
+    write_behind(b"expected ", misfit.wanted, out)?;
+    write_behind(b", found ", misfit.given, out)?;
+    write!(out, ", in argument {number} of ")?;
+    out.write_all(misfit.symbol)
+}
+
+/// Writes the sorts of two sides.
+fn write_sides<W: Write>(left: &[u8], right: &[u8], out: &mut W) -> io::Result<()> {
+    out.write_all(left)?;
+    write_behind(b" on the left, ", right, out)?;
+    out.write_all(b" on the right")
+}
+
+/// Returns the symbol or variable whose name is the nearest to a word.
+pub fn nearest_name<'s>(syntax: &'s Syntax, word: &'s [u8]) -> Option<&'s [u8]> {
     let mut nearest = Nearest::to(word);
     offer_symbols(syntax.source(), syntax.constructors(), &mut nearest);
     offer_symbols(syntax.source(), syntax.operators(), &mut nearest);
@@ -124,7 +237,7 @@ fn nearest_name<'s>(syntax: &'s Syntax, word: &'s [u8]) -> Option<&'s [u8]> {
     nearest.name
 }
 
-/// The symbol whose name is the nearest to a word.
+/// Returns the symbol whose name is the nearest to a word.
 pub fn nearest_symbol<'s>(syntax: &'s Syntax, word: &'s [u8]) -> Option<&'s [u8]> {
     let mut nearest = Nearest::to(word);
     offer_symbols(syntax.source(), syntax.constructors(), &mut nearest);
@@ -132,14 +245,14 @@ pub fn nearest_symbol<'s>(syntax: &'s Syntax, word: &'s [u8]) -> Option<&'s [u8]
     nearest.name
 }
 
-/// Offers the names of symbols.
+/// Compares the names of symbols with the nearest one so far.
 fn offer_symbols<'s>(text: &'s [u8], symbols: &[Declaration], nearest: &mut Nearest<'s>) {
     for symbol in symbols {
         nearest.offer(word_in(text, symbol.name));
     }
 }
 
-/// Offers the names of variables.
+/// Compares the names of variables with the nearest one so far.
 fn offer_variables<'s>(syntax: &'s Syntax, nearest: &mut Nearest<'s>) {
     let text = syntax.source();
     for group in syntax.groups() {
@@ -150,81 +263,32 @@ fn offer_variables<'s>(syntax: &'s Syntax, nearest: &mut Nearest<'s>) {
     }
 }
 
-/// Asks whether another name was meant.
-pub fn write_nearest<W: Write>(name: Option<&[u8]>, out: &mut W) -> io::Result<()> {
-    match name {
-        Some(name) => {
-            write_behind(b"; did you mean `", name, out)?;
-            out.write_all(b"`?")
-        }
-        None => Ok(()),
-    }
+/// Writes a suggestion.
+pub fn write_nearest<W: Write>(name: &[u8], out: &mut W) -> io::Result<()> {
+    write_behind(b"did you mean `", name, out)?;
+    out.write_all(b"`?")
 }
 
-/// Tells how many arguments a word takes, and how many it has here.
-fn write_count<W: Write>(syntax: &Syntax, at: usize, out: &mut W) -> io::Result<()> {
-    let word = word_at(syntax.source(), at);
-    match (find_symbol(syntax, word), count_at(syntax, at)) {
-        (Some(symbol), Some(given)) => write_takes(word, symbol.arguments.len(), given, out),
-        (None, Some(_)) => {
-            write_behind(b"; the variable ", word, out)?;
-            out.write_all(b" takes no arguments")
-        }
-        (_, None) => Ok(()),
-    }
-}
-
-/// How many arguments the word has that begins at a place.
-fn count_at(syntax: &Syntax, at: usize) -> Option<usize> {
-    Some(find_word(syntax, at)?.node()?.count)
-}
-
-/// Writes a text and a name behind it.
-fn write_behind<W: Write>(text: &[u8], name: &[u8], out: &mut W) -> io::Result<()> {
-    out.write_all(text)?;
-    out.write_all(name)
-}
-
-/// Tells how many arguments a symbol takes, and how many it has.
-pub fn write_takes<W: Write>(
-    name: &[u8],
-    wanted: usize,
-    given: usize,
-    out: &mut W,
-) -> io::Result<()> {
-    write_behind(b"; ", name, out)?;
-    let noun = if wanted == 1 { "argument" } else { "arguments" };
-    write!(out, " takes {wanted} {noun}, here {given}")
-}
-
-/// Tells which sort an argument should have, and which it has.
-fn write_argument<W: Write>(syntax: &Syntax, at: usize, out: &mut W) -> io::Result<()> {
-    match misfit_at(syntax, at) {
-        Some(misfit) => write_misfit(misfit, out),
-        None => Ok(()),
-    }
-}
-
-/// What is wrong with the argument that begins at a place.
+/// Returns the sort error of the argument that begins at this offset.
 fn misfit_at(syntax: &Syntax, at: usize) -> Option<Misfit<'_>> {
     let found = find_word(syntax, at)?;
     misfit_of(syntax, found)
 }
 
-/// An argument that has another sort than declared.
+/// An argument of the wrong sort.
 #[derive(Clone, Copy)]
 pub struct Misfit<'s> {
-    /// The sort that is declared.
+    /// The declared sort.
     pub wanted: &'s [u8],
-    /// The argument's.
+    /// The sort of the argument.
     pub given: &'s [u8],
-    /// The symbol that takes it.
+    /// The symbol whose argument it is.
     pub symbol: &'s [u8],
-    /// How many arguments stand before it.
+    /// The index of the argument, from 0.
     pub index: usize,
 }
 
-/// What is wrong with the argument that a word begins.
+/// Returns the sort error of the argument that a word begins.
 fn misfit_of<'s>(syntax: &'s Syntax, found: Occurrence<'s>) -> Option<Misfit<'s>> {
     let text = syntax.source();
     let node = found.node()?;
@@ -233,7 +297,8 @@ fn misfit_of<'s>(syntax: &'s Syntax, found: Occurrence<'s>) -> Option<Misfit<'s>
     argument_misfit(syntax, symbol, call.index, word_in(text, node.word))
 }
 
-/// What is wrong with an argument of a symbol, where something is.
+/// Returns the sort error of an argument of a symbol, if there is one. `head` is the first word of
+/// the argument.
 pub fn argument_misfit<'s>(
     syntax: &'s Syntax,
     symbol: &'s [u8],
@@ -255,33 +320,4 @@ pub fn argument_misfit<'s>(
         symbol,
         index,
     })
-}
-
-/// Tells what is wrong with an argument.
-pub fn write_misfit<W: Write>(misfit: Misfit<'_>, out: &mut W) -> io::Result<()> {
-    let number = misfit.index.saturating_add(1);
-    write_behind(b"; expected ", misfit.wanted, out)?;
-    write_behind(b", found ", misfit.given, out)?;
-    write!(out, ", as argument {number} of ")?;
-    out.write_all(misfit.symbol)
-}
-
-/// Tells which sorts the sides of a rule or of a condition have.
-fn write_sides<W: Write>(syntax: &Syntax, at: usize, out: &mut W) -> io::Result<()> {
-    let Some(Sides { left, right }) = find_sides(syntax, at) else {
-        return Ok(());
-    };
-    match (side_sort(syntax, left), side_sort(syntax, right)) {
-        (Some(left), Some(right)) => {
-            write_behind(b"; ", left, out)?;
-            write_behind(b" on the left, ", right, out)?;
-            out.write_all(b" on the right")
-        }
-        _ => Ok(()),
-    }
-}
-
-/// The sort of a side.
-fn side_sort<'s>(syntax: &'s Syntax, side: &Term) -> Option<&'s [u8]> {
-    sort_of(syntax, word_in(syntax.source(), head_of(side)?.word))
 }

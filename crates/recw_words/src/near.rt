@@ -1,7 +1,7 @@
-//! Words that are spelt nearly alike.
+//! Similarity of words, for suggestions.
 
-/// In how many bytes words differ, between what both begin with and what both end with; none where
-/// they differ in the case of letters alone.
+/// Returns the number of bytes in which words differ, between their common prefix and their common
+/// suffix. It is 0 if they differ only in upper and lower case.
 fn gap(word: &[u8], other: &[u8]) -> usize {
     if word.eq_ignore_ascii_case(other) {
         return 0;
@@ -13,19 +13,19 @@ fn gap(word: &[u8], other: &[u8]) -> usize {
     word.len().max(other.len()).saturating_sub(back)
 }
 
-/// With how many bytes both words begin.
+/// Returns the length of the common prefix.
 fn common_front(word: &[u8], other: &[u8]) -> usize {
     let pairs = word.iter().zip(other.iter());
     pairs.take_while(|pair| pair.0 == pair.1).count()
 }
 
-/// With how many bytes both words end.
+/// Returns the length of the common suffix.
 fn common_back(word: &[u8], other: &[u8]) -> usize {
     let pairs = word.iter().rev().zip(other.iter().rev());
     pairs.take_while(|pair| pair.0 == pair.1).count()
 }
 
-/// In how many bytes a word may differ from one that is meant, by its length.
+/// Returns the largest difference at which a word of this length is near to another.
 fn most_apart(length: usize) -> usize {
     match length {
         0 | 1 => 0,
@@ -34,24 +34,24 @@ fn most_apart(length: usize) -> usize {
     }
 }
 
-/// Whether a word may be a misspelling of another.
+/// Returns whether a word may be a misspelling of another.
 pub fn is_near(word: &[u8], other: &[u8]) -> bool {
     gap(word, other) <= most_apart(word.len())
 }
 
-/// The nearest of some names to a word.
+/// A search for the name that is nearest to a word.
 #[derive(Clone, Copy)]
 pub struct Nearest<'a> {
-    /// The word that is no name.
+    /// The word.
     word: &'a [u8],
-    /// In how many bytes a name may differ from it to be nearer than the one that was found.
+    /// The difference that the next name must be below.
     below: usize,
-    /// The nearest name so far, where one is near.
+    /// The nearest name so far, if one is near.
     pub name: Option<&'a [u8]>,
 }
 
 impl<'a> Nearest<'a> {
-    /// No name so far.
+    /// Returns a search without names.
     pub fn to(word: &'a [u8]) -> Nearest<'a> {
         Nearest {
             word,
@@ -60,7 +60,7 @@ impl<'a> Nearest<'a> {
         }
     }
 
-    /// Another name; of two that are equally near the first is kept.
+    /// Compares one more name. The first of two equally near names is kept.
     pub fn offer(&mut self, name: &'a [u8]) {
         let gap = gap(self.word, name);
         if gap < self.below {

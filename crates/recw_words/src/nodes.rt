@@ -1,77 +1,74 @@
-//! Where a word stands in the rules and terms of a specification.
+//! Location of a word in the rules and terms of a specification.
 
 use rec_syntax::{Node, Rule, Syntax, Term};
 
-/// A word of a term.
+/// An occurrence of a word in a term.
 #[derive(Clone, Copy)]
 pub struct Occurrence<'s> {
-    /// The words of the term, each behind those of its arguments.
+    /// The words of the term in postfix form.
     nodes: &'s [Node],
-    /// How many of them stand before the word.
+    /// The index of the word.
     index: usize,
 }
 
-/// The term in which a word begins at a place.
+/// Returns the occurrence that begins at this offset. Only the last term that begins at or before
+/// the offset is searched.
 pub fn find_word(syntax: &Syntax, at: usize) -> Option<Occurrence<'_>> {
+    let mut last = None;
     for rule in syntax.rules() {
-        if let Some(found) = find_in_rule(rule, at) {
-            return Some(found);
-        }
+        last = last_in_rule(rule, at).or(last);
     }
     for term in syntax.terms() {
-        if let Some(found) = find_in_term(term, at) {
-            return Some(found);
-        }
+        last = last_of(term, at).or(last);
     }
-    None
+    find_in_term(last?, at)
 }
 
-/// The word in a term of a rule.
-fn find_in_rule(rule: &Rule, at: usize) -> Option<Occurrence<'_>> {
-    if let Some(found) = find_in_both(&rule.left, &rule.right, at) {
-        return Some(found);
-    }
+/// Returns the last term of a rule that begins at or before an offset.
+fn last_in_rule(rule: &Rule, at: usize) -> Option<&Term> {
+    let mut last = last_of(&rule.right, at).or(last_of(&rule.left, at));
     for condition in rule.conditions.iter() {
-        if let Some(found) = find_in_both(&condition.left, &condition.right, at) {
-            return Some(found);
-        }
+        last = last_of(&condition.left, at).or(last);
+        last = last_of(&condition.right, at).or(last);
     }
-    None
+    last
 }
 
-/// The word in one of two terms.
-fn find_in_both<'s>(left: &'s Term, right: &'s Term, at: usize) -> Option<Occurrence<'s>> {
-    match find_in_term(left, at) {
-        Some(found) => Some(found),
-        None => find_in_term(right, at),
+/// Returns the term if it begins at or before an offset.
+fn last_of(term: &Term, at: usize) -> Option<&Term> {
+    if head_of(term)?.word.from <= at {
+        Some(term)
+    } else {
+        None
     }
 }
 
-/// The word in a term.
+/// Searches a term.
 fn find_in_term(term: &Term, at: usize) -> Option<Occurrence<'_>> {
     let nodes = term.nodes();
     let index = nodes.iter().position(|node| node.word.from == at)?;
     Some(Occurrence { nodes, index })
 }
 
-/// The application of which a word begins an argument.
+/// The application whose argument a word begins.
 #[derive(Clone, Copy)]
 pub struct Call {
-    /// Its first word.
+    /// The application's symbol.
     pub head: Node,
-    /// How many arguments stand before that one.
+    /// The index of the argument.
     pub index: usize,
 }
 
 impl Occurrence<'_> {
-    /// The word.
+    /// Returns the node of the word.
     pub fn node(&self) -> Option<Node> {
         self.nodes.get(self.index).copied()
     }
 
-    /// The application of which the word begins an argument, where there is one.
+    /// Returns the application whose argument the word begins, if there is one.
     pub fn call(&self) -> Option<Call> {
-        // how many whole terms stand behind the word's own that no application has taken yet
+        // the number of complete terms after that of the word that no application has taken as
+        // arguments yet
         let mut behind = 0usize;
         for head in self.nodes.get(self.index..)?.iter().skip(1) {
             if head.count > behind {
@@ -84,16 +81,16 @@ impl Occurrence<'_> {
     }
 }
 
-/// Two terms that are to have one sort.
+/// Two terms that must have the same sort.
 #[derive(Clone, Copy)]
 pub struct Sides<'s> {
-    /// The first.
+    /// The left one.
     pub left: &'s Term,
-    /// The second.
+    /// The right one.
     pub right: &'s Term,
 }
 
-/// The sides of the rule or of the condition that begins at a place.
+/// Returns the two sides of the rule or of the condition that begins at this offset.
 pub fn find_sides(syntax: &Syntax, at: usize) -> Option<Sides<'_>> {
     for rule in syntax.rules() {
         if begins_at(&rule.left, at) {
@@ -107,7 +104,7 @@ pub fn find_sides(syntax: &Syntax, at: usize) -> Option<Sides<'_>> {
     None
 }
 
-/// The sides of the condition of a rule that begins at a place.
+/// Returns the two sides of the condition that begins at this offset.
 fn find_condition(rule: &Rule, at: usize) -> Option<Sides<'_>> {
     let conditions = rule.conditions.as_slice();
     let condition = conditions
@@ -119,15 +116,20 @@ fn find_condition(rule: &Rule, at: usize) -> Option<Sides<'_>> {
     })
 }
 
-/// Whether a term begins at a place.
-fn begins_at(term: &Term, at: usize) -> bool {
+/// Returns whether a term has a word at this offset.
+pub fn has_word(term: &Term, at: usize) -> bool {
+    find_in_term(term, at).is_some()
+}
+
+/// Returns whether a term begins at this offset.
+pub fn begins_at(term: &Term, at: usize) -> bool {
     match head_of(term) {
         Some(head) => head.word.from == at,
         None => false,
     }
 }
 
-/// The first word of a term.
+/// Returns the first word of a term.
 pub fn head_of(term: &Term) -> Option<Node> {
     term.nodes().last().copied()
 }

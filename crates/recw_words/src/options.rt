@@ -1,38 +1,40 @@
-//! The options of a subcommand.
+//! The values of the options.
 ghost use Rattle.std.specs.Prelude.{◌≤◌, ◌^◌};
 
-use crate::arguments::{MOST_CELLS, MOST_INDENT, MOST_RESULTS, MOST_STEPS};
-use crate::wrong::{NO_PLACE, Wrong};
+use crate::arguments::{MOST_BYTES, MOST_CELLS, MOST_INDENT, MOST_RESULTS, MOST_STEPS};
+use crate::wrong::{NO_RULE_PLACE, NO_WORD_PLACE, Wrong};
 use clap::ArgMatches;
 
-/// How many results are remembered where a subcommand has no option for that.
+/// The capacity of the memo table in commands without the option.
 const MEMO: u32 = 65_536;
 
-/// How many new cells there may be between two reclaims, in the same case.
+/// The collection interval in commands without the option.
 const RECLAIM: u32 = 262_144;
 
 /// The options of an evaluation, each in its range.
 #[derive(Clone, Copy)]
 pub struct EvalOptions {
-    /// The most steps that a term may take.
+    /// The step limit of each term.
     pub steps: u64,
-    /// The most cells.
+    /// The capacity of the store, in cells.
     pub cells: u32,
-    /// The most results that are remembered.
+    /// The capacity of the memo table, in results.
     pub memo: u32,
-    /// How many new cells there may be between two reclaims.
+    /// Collect garbage at the latest after this many new cells.
     pub reclaim: u32,
-    /// Whether the steps of each term are printed.
+    /// Whether each result is followed by its step count.
     pub count: bool,
-    /// Whether the limit line of a given term bears its annotations.
+    /// The largest number of bytes of a result, if there is one.
+    pub bytes: Option<u64>,
+    /// Whether the limit line of an input term has its annotations.
     pub limit_annotations: bool,
-    /// How many calls may wait at once; without a number as many as there is memory for.
+    /// The call-depth limit, if there is one.
     pub depth: Option<u32>,
-    /// Whether it is told which calls of operators the values hold.
+    /// Whether stuck calls are listed.
     pub stuck: bool,
-    /// Whether it is told how often each rule was used, and what the run took.
+    /// Whether rule counts and resource use are printed.
     pub profile: bool,
-    /// Whether it is told how far a term is that takes long, also where nobody reads it.
+    /// Whether progress is shown even if standard error is not a terminal.
     pub progress: bool,
     pub ghost steps_in_range: { steps ≤ 10 ^ 18 },
     pub ghost cells_in_range: { (1 ≤ cells) × (cells ≤ 2 ^ 30) },
@@ -40,7 +42,16 @@ pub struct EvalOptions {
     pub ghost reclaim_in_range: { (1 ≤ reclaim) × (reclaim ≤ 2 ^ 30) },
 }
 
-/// The place at which a rule begins, line and column from 1.
+/// The options of a check.
+#[derive(Clone, Copy)]
+pub struct CheckOptions {
+    /// Whether a warning leads to exit status 1.
+    pub is_strict: bool,
+    /// Whether findings are written as JSON.
+    pub is_json: bool,
+}
+
+/// A location in a specification, line and column from 1.
 #[derive(Clone, Copy)]
 pub struct RulePlace {
     /// The line.
@@ -49,24 +60,24 @@ pub struct RulePlace {
     pub column: u32,
 }
 
-/// What a trace shows.
+/// The options of a trace.
 #[derive(Clone, Copy)]
 pub struct Shown<'a> {
-    /// Whether it is the whole term, in place of what is rewritten.
+    /// Whether the whole term is printed, and not the redex alone.
     pub whole: bool,
-    /// To how many bytes each term is cut, where it is.
+    /// The length to which each term is cut, if it is.
     pub width: Option<u32>,
-    /// How many firings in front are shown; all where neither this nor the next is said.
+    /// The number of rewrites that are printed first. Without `first` and `last`, all are printed.
     pub first: Option<u64>,
-    /// How many at the end.
+    /// The number of rewrites that are printed last.
     pub last: Option<u32>,
-    /// The rule whose firings alone are shown, where one is said.
+    /// The rule whose rewrites are printed, if only one is selected.
     pub rule: Option<RulePlace>,
-    /// The symbol whose calls alone are.
+    /// The symbol whose calls are printed, if only one is selected.
     pub symbol: Option<&'a str>,
 }
 
-/// The options of an evaluation, each in its range.
+/// Returns the options of an evaluation. `None` if one is missing or not in its range.
 pub fn options_of(matches: &ArgMatches<'_>) -> Option<EvalOptions> {
     Some(EvalOptions {
         steps: matches.get_one::<u64>("steps")?.min(MOST_STEPS),
@@ -74,6 +85,7 @@ pub fn options_of(matches: &ArgMatches<'_>) -> Option<EvalOptions> {
         memo: number_of(matches, "memo", MEMO).min(MOST_RESULTS),
         reclaim: number_of(matches, "reclaim", RECLAIM).clamp(1, MOST_CELLS),
         count: matches.get_flag("count"),
+        bytes: matches.get_one::<u64>("bytes").map(most_bytes),
         limit_annotations: matches.get_flag("limit-annotations"),
         depth: matches.get_one::<u32>("depth"),
         stuck: matches.get_flag("stuck"),
@@ -82,18 +94,23 @@ pub fn options_of(matches: &ArgMatches<'_>) -> Option<EvalOptions> {
     })
 }
 
-/// The number of an option; this one where there is none.
+/// Returns the largest number of bytes, in its range.
+fn most_bytes(bytes: u64) -> u64 {
+    bytes.min(MOST_BYTES)
+}
+
+/// Returns the number of an option, or `default` if it has none.
 fn number_of(matches: &ArgMatches<'_>, id: &str, default: u32) -> u32 {
     matches.get_one::<u32>(id).unwrap_or(default)
 }
 
-/// How many blanks a level is to have, where that is said.
+/// Returns the number of spaces of an indentation level, if `--indent` is given.
 pub fn indent_of(inner: &ArgMatches<'_>) -> Option<u8> {
     let indent = inner.get_one::<u32>("indent")?;
     Some(indent.min(MOST_INDENT) as u8)
 }
 
-/// How many parts a graph shows at most, where one is asked for.
+/// Returns the largest number of nodes of a graph, if `--dot` is given.
 pub fn nodes_of(inner: &ArgMatches<'_>) -> Option<u32> {
     if !inner.get_flag("dot") {
         return None;
@@ -101,26 +118,39 @@ pub fn nodes_of(inner: &ArgMatches<'_>) -> Option<u32> {
     inner.get_one::<u32>("nodes")
 }
 
-/// What a trace shows, or what is wrong with the place of a rule.
+/// Returns the options of a trace, or the error in the location of a rule.
 pub fn shown_of<'a>(inner: &ArgMatches<'a>) -> Result<Shown<'a>, Wrong> {
     Ok(Shown {
         whole: inner.get_flag("whole"),
         width: inner.get_one::<u32>("width"),
         first: inner.get_one::<u64>("first"),
         last: inner.get_one::<u32>("last"),
-        rule: rule_of(inner)?,
+        rule: place_of(inner, "rule", NO_RULE_PLACE)?,
         symbol: inner.get_str("symbol"),
     })
 }
 
-/// The place of the rule that is said, where one is.
-fn rule_of(inner: &ArgMatches<'_>) -> Result<Option<RulePlace>, Wrong> {
-    match inner.get_strs("rule") {
+/// Returns the options of a check.
+pub fn check_of(inner: &ArgMatches<'_>) -> CheckOptions {
+    CheckOptions {
+        is_strict: inner.get_flag("strict"),
+        is_json: inner.get_str("format") == Some("json"),
+    }
+}
+
+/// Returns the location of the word whose uses are printed, if there is one.
+pub fn word_place_of(inner: &ArgMatches<'_>) -> Result<Option<RulePlace>, Wrong> {
+    place_of(inner, "at", NO_WORD_PLACE)
+}
+
+/// Returns the location that an option has, if it is given, or `wrong` if it is no location.
+fn place_of(inner: &ArgMatches<'_>, id: &str, wrong: Wrong) -> Result<Option<RulePlace>, Wrong> {
+    match inner.get_strs(id) {
         None => Ok(None),
         Some([line, column]) => Ok(Some(RulePlace {
-            line: line.parse().map_err(|_| NO_PLACE)?,
-            column: column.parse().map_err(|_| NO_PLACE)?,
+            line: line.parse().map_err(|_| wrong)?,
+            column: column.parse().map_err(|_| wrong)?,
         })),
-        Some(_) => Err(NO_PLACE),
+        Some(_) => Err(wrong),
     }
 }

@@ -1,31 +1,31 @@
-//! An output whose lines are seen soon.
+//! A writer that flushes lines early.
 
 use std::io;
 use std::io::Write;
 use std::time::{Clock, Duration};
 
-/// How many lines are handed on one by one, which costs little.
+/// The number of lines that are flushed one by one.
 const FIRST_LINES: u32 = 1000;
 
-/// For how many milliseconds a later line may wait for others.
+/// The longest time between two later flushes, in milliseconds.
 const PATIENCE: u64 = 1;
 
-/// A writer that flushes at the ends of lines: of the first ones at once, and later where the last
-/// flush was a while ago, so that many short lines take little longer.
+/// A writer that flushes after lines: after each of the first 1,000, and later if the last flush
+/// was at least a millisecond ago. So results appear at once, and many short lines stay fast.
 #[derive(Drop)]
 pub struct Prompt<'a, C, W> {
     /// The clock.
     clock: &'a C,
-    /// The writer that is asked.
+    /// The wrapped writer.
     output: W,
-    /// How many lines were handed on one by one.
+    /// The number of lines that were flushed one by one.
     lines: u32,
-    /// When the last of the later lines was, by the clock.
+    /// The time of the last later flush.
     flushed: Duration,
 }
 
 impl<'a, C: Clock, W: Write> Prompt<'a, C, W> {
-    /// A writer to which nothing was written.
+    /// Returns a wrapper of `output` that has written nothing.
     pub fn new(clock: &'a C, output: W) -> Prompt<'a, C, W> {
         Prompt {
             clock,
@@ -35,7 +35,7 @@ impl<'a, C: Clock, W: Write> Prompt<'a, C, W> {
         }
     }
 
-    /// Flushes behind a line, where that is due.
+    /// Flushes after a line, if it is time.
     fn end_line(&mut self) -> io::Result<()> {
         if self.is_due() {
             self.output.flush()
@@ -44,8 +44,7 @@ impl<'a, C: Clock, W: Write> Prompt<'a, C, W> {
         }
     }
 
-    /// Whether the lines are to be seen that were written. Where there is no time to be told, they
-    /// wait.
+    /// Returns whether it is time for a flush. Without a clock reading, it is not.
     fn is_due(&mut self) -> bool {
         if self.lines < FIRST_LINES {
             self.lines = self.lines.saturating_add(1);

@@ -1,105 +1,262 @@
-//! The refusals in words.
+//! The error and warning codes: their descriptions, examples and fixes.
 
 use rx_run::Reason;
 use std::io;
 use std::io::Write;
 
-/// Each refusal, as the table has them.
-static REFUSALS: [Reason; 24] = [
-    Reason::Long,
-    Reason::Grammar { at: 0 },
-    Reason::Rule { number: 1, at: 0 },
-    Reason::Rule { number: 2, at: 0 },
-    Reason::Rule { number: 3, at: 0 },
-    Reason::Rule { number: 4, at: 0 },
-    Reason::Rule { number: 5, at: 0 },
-    Reason::Rule { number: 6, at: 0 },
-    Reason::Rule { number: 7, at: 0 },
-    Reason::Rule { number: 8, at: 0 },
-    Reason::Rule { number: 9, at: 0 },
-    Reason::Rule { number: 10, at: 0 },
-    Reason::Rule { number: 11, at: 0 },
-    Reason::Outside { at: 0 },
-    Reason::Unlisted,
-    Reason::TermsRule { number: 2 },
-    Reason::TermsRule { number: 3 },
-    Reason::TermsRule { number: 4 },
-    Reason::TermsRule { number: 5 },
-    Reason::TermsRule { number: 6 },
-    Reason::Unknown,
-    Reason::Annotated,
-    Reason::Count,
-    Reason::Kind,
+/// A code.
+#[derive(Clone, Copy)]
+pub struct Code {
+    /// Its name.
+    name: &'static str,
+    /// Its description.
+    words: &'static str,
+    /// A text with the error or the warning.
+    example: &'static str,
+    /// What to write.
+    fix: &'static str,
+}
+
+/// The number of error codes. They come before the warnings.
+const ERRORS: usize = 24;
+
+/// The codes, in the order of the list.
+static CODES: [Code; 29] = [
+    Code {
+        name: "L1",
+        words: "the text has more than 16777216 bytes",
+        example: "a file of 17 MB",
+        fix: "divide the text",
+    },
+    Code {
+        name: "G",
+        words: "syntax error in the specification",
+        example: "RULES f(X) = X",
+        fix: "write what is expected: f(X) -> X",
+    },
+    Code {
+        name: "S1",
+        words: "duplicate sort",
+        example: "SORTS A B A",
+        fix: "declare it once",
+    },
+    Code {
+        name: "S2",
+        words: "duplicate symbol in CONS and OPNS, even with other sorts",
+        example: "CONS a : -> A OPNS a : -> B",
+        fix: "rename one",
+    },
+    Code {
+        name: "S3",
+        words: "duplicate variable, or variable with the name of a symbol",
+        example: "VARS X Y X : A",
+        fix: "declare it once, or rename it",
+    },
+    Code {
+        name: "S4",
+        words: "undeclared sort in CONS, OPNS or VARS",
+        example: "SORTS A VARS X : B",
+        fix: "add it to SORTS, or correct the spelling",
+    },
+    Code {
+        name: "S5",
+        words: "undeclared symbol or variable in RULES or EVAL",
+        example: "OPNS plus : A A -> A EVAL pluss(a,a)",
+        fix: "declare it, or correct the spelling",
+    },
+    Code {
+        name: "S6",
+        words: "wrong number of arguments of a symbol, or arguments of a variable",
+        example: "OPNS f : A -> A EVAL f(a,a)",
+        fix: "give the declared number",
+    },
+    Code {
+        name: "S7",
+        words: "argument of the wrong sort",
+        example: "CONS b : -> B OPNS f : A -> A EVAL f(b)",
+        fix: "use a term of the declared sort",
+    },
+    Code {
+        name: "S8",
+        words: "left-hand side that does not start with an operator (a symbol of OPNS)",
+        example: "CONS a : -> A RULES a -> a",
+        fix: "start with an operator",
+    },
+    Code {
+        name: "S9",
+        words: "rule or condition whose two sides have different sorts",
+        example: "CONS b : -> B OPNS f : A -> A RULES f(X) -> b",
+        fix: "use terms of one sort",
+    },
+    Code {
+        name: "S10",
+        words: "variable that is not in the left-hand side of its rule",
+        example: "RULES f(X) -> Y",
+        fix: "add it to the left-hand side",
+    },
+    Code {
+        name: "S11",
+        words: "variable in an EVAL term",
+        example: "VARS X : A EVAL f(X)",
+        fix: "use a term without variables",
+    },
+    Code {
+        name: "A",
+        words: "syntax error in the annotated term",
+        example: "[f(a",
+        fix: "close the marks: [f(a)]",
+    },
+    Code {
+        name: "T1",
+        words: "input terms or arguments that are not one list without annotations",
+        example: "a",
+        fix: "put the terms into a list: [a]",
+    },
+    Code {
+        name: "T2",
+        words: "integer, list or placeholder as a subterm of an input term",
+        example: "[f(3)]",
+        fix: "use symbols; a symbol 3 is written \"3\"",
+    },
+    Code {
+        name: "T3",
+        words: "annotations on a subterm that is not a whole input term",
+        example: "[f(a{b})]",
+        fix: "annotate the whole term: [f(a){b}]",
+    },
+    Code {
+        name: "T4",
+        words: "undeclared symbol, or wrong quotes (only plain names have none)",
+        example: "[\"a\"]",
+        fix: "write a without quotes, or declare the symbol",
+    },
+    Code {
+        name: "T5",
+        words: "wrong number of arguments",
+        example: "[f(a,a)], if f : A -> A",
+        fix: "give the declared number",
+    },
+    Code {
+        name: "T6",
+        words: "argument of the wrong sort",
+        example: "[f(b)], if f : A -> A and b : -> B",
+        fix: "use a term of the declared sort",
+    },
+    Code {
+        name: "P1",
+        words: "placeholder other than <term>, <int>, <str>, <appl>, <placeholder>, <list>",
+        example: "<foo>",
+        fix: "use one of the six",
+    },
+    Code {
+        name: "P2",
+        words: "placeholder with annotations",
+        example: "<int>{a}",
+        fix: "remove the annotations",
+    },
+    Code {
+        name: "M1",
+        words: "wrong number of arguments for the pattern",
+        example: "recw make 'f(<int>)' '[]'",
+        fix: "give one argument for each placeholder",
+    },
+    Code {
+        name: "M2",
+        words: "argument that does not match its placeholder",
+        example: "recw make 'f(<int>)' '[a]'",
+        fix: "give an argument that the placeholder matches",
+    },
+    Code {
+        name: "W1",
+        words: "unreachable rule: an earlier rule without conditions matches all that it matches",
+        example: "RULES f(X) -> a f(b) -> b",
+        fix: "remove the rule, or move it up",
+    },
+    Code {
+        name: "W2",
+        words: "rule cannot match: this argument is rewritten first",
+        example: "RULES f(X) -> a g(f(X)) -> b",
+        fix: "write the result of the argument: g(a) -> b",
+    },
+    Code {
+        name: "W3",
+        words: "missing case: no left-hand side matches this call",
+        example: "OPNS f : A -> A RULES f(a) -> a, if b : -> A",
+        fix: "add a rule: f(b) -> a",
+    },
+    Code {
+        name: "W4",
+        words: "unused sort, symbol or variable",
+        example: "VARS X Y : A RULES f(X) -> X",
+        fix: "remove it",
+    },
+    Code {
+        name: "W5",
+        words: "operator without rules: each call of it is stuck",
+        example: "OPNS f : A -> A RULES EVAL f(a)",
+        fix: "add rules, or declare it in CONS",
+    },
 ];
 
-/// What is wrong, in words.
+/// Returns the table of the codes.
+fn table() -> &'static [Code] {
+    &CODES
+}
+
+/// Returns the description of an error.
 pub fn words_of(reason: Reason) -> &'static str {
+    match table().get(index_of(reason)) {
+        Some(code) => code.words,
+        None => "",
+    }
+}
+
+/// Returns the index of an error in the table.
+fn index_of(reason: Reason) -> usize {
     match reason {
-        Reason::Long => "the text has more than 16777216 bytes",
-        Reason::Grammar { at: _ } => "no specification has this here",
-        Reason::Rule { number, at: _ } => rule_words(number),
-        Reason::Outside { at: _ } => "no annotated term has this here",
-        Reason::Unlisted => terms_rule_words(1),
-        Reason::TermsRule { number } => terms_rule_words(number),
-        Reason::Unknown => {
-            "a placeholder is not <term>, <int>, <str>, <appl>, <placeholder> or <list>"
-        }
-        Reason::Annotated => "a placeholder has annotations",
-        Reason::Count => "the number of given trees is not the number of placeholders",
-        Reason::Kind => "a given tree is not one that its placeholder matches",
+        Reason::Long => 0,
+        Reason::Grammar { at: _ } => 1,
+        Reason::Rule { number, at: _ } => usize::from(number.min(11)).saturating_add(1),
+        Reason::Outside { at: _ } => 13,
+        Reason::Unlisted => 14,
+        Reason::TermsRule { number } => usize::from(number.min(6)).saturating_add(13),
+        Reason::Unknown => 20,
+        Reason::Annotated => 21,
+        Reason::Count => 22,
+        Reason::Kind => 23,
     }
 }
 
-/// The same of the rules of specifications.
-fn rule_words(number: u8) -> &'static str {
-    match number {
-        1 => "a sort is declared twice",
-        2 => "a symbol is declared twice in CONS and OPNS together, also with other sorts",
-        3 => "a variable is declared twice, or has a symbol's name",
-        4 => "a sort that stands in CONS, OPNS or VARS is not declared",
-        5 => "a word in a term of RULES or EVAL is neither a symbol nor a variable",
-        6 => "a symbol has another number of arguments than declared, or a variable has some",
-        7 => "an argument in any term, left sides included, has another sort than declared",
-        8 => {
-            "the first word of a left side is not an OPNS symbol (but a CONS symbol or a variable)"
-        }
-        9 => "a rule's sides, or a condition's terms, have different sorts",
-        10 => {
-            "a variable of a right side or of a condition's two terms is not in the rule's left side"
-        }
-        _ => "a variable occurs in a term of EVAL",
+/// Returns the code with this name, if there is one.
+pub fn code_named(name: &str) -> Option<Code> {
+    table().iter().find(|code| code.name == name).copied()
+}
+
+impl Code {
+    /// Writes the code and its description.
+    fn write_line<W: Write>(&self, out: &mut W) -> io::Result<()> {
+        let Code { name, words, .. } = *self;
+        let blanks = match name.len() {
+            1 => "   ",
+            2 => "  ",
+            _ => " ",
+        };
+        writeln!(out, "{name}{blanks}{words}")
+    }
+
+    /// Writes the code, its description, an example and the fix.
+    pub fn write_help<W: Write>(&self, out: &mut W) -> io::Result<()> {
+        self.write_line(out)?;
+        let Code { example, fix, .. } = *self;
+        writeln!(out, "\nExample: {example}\nFix: {fix}")?;
+        out.flush()
     }
 }
 
-/// The same of the rules of given terms, the first of which is one of arguments too.
-fn terms_rule_words(number: u8) -> &'static str {
-    match number {
-        1 => "the terms or arguments are not a list, or have annotations themselves",
-        2 => "a node is an integer, a list or a placeholder",
-        3 => "a node other than a given term itself has annotations",
-        4 => {
-            "no declared symbol has a node's name with its flag: \
-         unquoted where the name is plain, else quoted"
-        }
-        5 => "a node has another number of arguments than declared",
-        _ => "an argument has another sort than declared",
-    }
-}
-
-/// The blanks behind a refusal's name in the table.
-fn blanks_behind(reason: Reason) -> &'static str {
-    match reason {
-        Reason::Grammar { at: _ } | Reason::Outside { at: _ } => "   ",
-        Reason::Rule { number, at: _ } if number > 9 => " ",
-        _ => "  ",
-    }
-}
-
-/// Writes the table of all refusals.
+/// Writes the list of all error codes.
 pub fn write_all<W: Write>(out: &mut W) -> io::Result<()> {
-    for reason in &REFUSALS {
-        let blanks = blanks_behind(*reason);
-        writeln!(out, "{reason}{blanks}{}", words_of(*reason))?;
+    for code in table().iter().take(ERRORS) {
+        code.write_line(out)?;
     }
     out.flush()
 }

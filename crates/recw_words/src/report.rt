@@ -1,4 +1,4 @@
-//! What the standard error says of the words.
+//! Reports about the command-line arguments: help, usage errors and suggestions.
 ghost use Rattle.std.specs.Prelude.{◌≡◌, ◌≢◌, ◌↔◌, ◌⊎◌};
 ghost use Rattle.clap.specs.Words.{kind_of};
 
@@ -7,7 +7,7 @@ use clap::error::ErrorKind;
 use std::io;
 use std::io::Write;
 
-/// Tells that there is no memory, and gives the status.
+/// Reports out of memory, and returns the exit status.
 fn out_of_memory<E: Write>(err: &mut E) -> u8
     ensures { result ≡ 3 }
 {
@@ -15,7 +15,7 @@ fn out_of_memory<E: Write>(err: &mut E) -> u8
     OUT_OF_ROOM
 }
 
-/// Tells that a write failed, and gives the status.
+/// Reports a failed write, and returns the exit status.
 fn write_failed<E: Write>(err: &mut E) -> u8
     ensures { result ≡ 4 }
 {
@@ -23,22 +23,24 @@ fn write_failed<E: Write>(err: &mut E) -> u8
     STREAMS
 }
 
-/// Tells of a fault. A line that cannot be written is left out.
+/// Reports an error. If the line cannot be written, it is dropped.
 fn tell<E: Write>(fault: &str, err: &mut E) {
     let _ = writeln!(err, "recw: {fault}");
 }
 
-/// The status of a help that was written, or not.
+/// Returns the exit status after a help text, and reports a failed write, unless the reader of the
+/// help went away.
 pub fn help_written<E: Write>(written: io::Result<()>, err: &mut E) -> u8
     ensures { (result ≡ 0) ⊎ (result ≡ 4) }
 {
     match written {
         Ok(()) => DONE,
+        Err(error) if error.kind() == io::ErrorKind::BrokenPipe => STREAMS,
         Err(_) => write_failed(err),
     }
 }
 
-/// Shows the help, or what is wrong with the words.
+/// Prints the help or a usage error, and returns the exit status.
 pub fn refused_words<W: Write, E: Write>(error: &clap::Error, out: &mut W, err: &mut E) -> u8
     ensures memory { kind_of error.now ≡ ErrorKind.OutOfMemory → result ≡ 3 }
     ensures help { kind_of error.now ≡ ErrorKind.DisplayHelp → (result ≡ 0) ⊎ (result ≡ 4) }
@@ -56,13 +58,13 @@ pub fn refused_words<W: Write, E: Write>(error: &clap::Error, out: &mut W, err: 
     }
 }
 
-/// Writes a help or the version.
+/// Writes the help or the version.
 fn show<W: Write>(help: &clap::Error, out: &mut W) -> io::Result<()> {
     write!(out, "{help}")?;
     out.flush()
 }
 
-/// Names the command for a file, where one stands in a command's place.
+/// Suggests a command if the first argument is a file name and not a command.
 pub fn advise<E: Write>(words: &[&str], err: &mut E) {
     if let Some(word) = words.first()
         && word.contains(['.', '/'].as_slice())
@@ -71,7 +73,8 @@ pub fn advise<E: Write>(words: &[&str], err: &mut E) {
     }
 }
 
-/// Names the command for a file, which is quoted where the shell would not take it as one word.
+/// Writes the suggested command line. The file name is quoted if the shell would not read it as one
+/// word.
 fn write_advice<E: Write>(word: &str, err: &mut E) -> io::Result<()> {
     err.write_all(b"\nTo evaluate the specification in that file: recw eval ")?;
     write_word(word, err)?;
@@ -90,7 +93,7 @@ fn write_word<E: Write>(word: &str, err: &mut E) -> io::Result<()> {
     err.write_all(b"'")
 }
 
-/// Writes a byte as a shell reads it within quotes.
+/// Writes a byte as a shell reads it within single quotes.
 fn write_quoted<E: Write>(byte: u8, err: &mut E) -> io::Result<()> {
     match byte {
         b'\'' => err.write_all(b"'\\''"),
@@ -98,12 +101,12 @@ fn write_quoted<E: Write>(byte: u8, err: &mut E) -> io::Result<()> {
     }
 }
 
-/// Whether a shell takes a byte as it is.
+/// Returns whether a shell reads a byte as itself.
 fn is_plain(byte: u8) -> bool {
     byte.is_ascii_alphanumeric() || matches!(byte, b'.' | b'/' | b'_' | b'-' | b'+' | b',' | b'@')
 }
 
-/// Tells why there are no words to read.
+/// Reports that the arguments could not be read, and returns the exit status.
 pub fn failed_start<E: Write>(error: &io::Error, err: &mut E) -> u8 {
     if error.kind() == io::ErrorKind::OutOfMemory {
         return out_of_memory(err);

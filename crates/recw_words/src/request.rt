@@ -1,47 +1,47 @@
-//! What the words ask for.
+//! Parsed command lines.
 
 use crate::command;
-use crate::options::{EvalOptions, Shown, indent_of, nodes_of, options_of, shown_of};
+use crate::options::{
+    CheckOptions, EvalOptions, RulePlace, Shown, check_of, indent_of, nodes_of, options_of,
+    shown_of, word_place_of,
+};
 use crate::wrong::{MISSING, READ_TWICE, Wrong};
 use clap::{ArgMatches, Command, Error};
 use std::alloc::{AllocError, Global};
 
-/// What a subcommand is asked to do.
+/// A command with its arguments. A missing path means standard input.
 #[derive(Clone, Copy)]
 pub enum Request<'a> {
-    /// Evaluate a specification, which stands in a file or on the standard input, and given terms,
-    /// which stand in a file.
+    /// Evaluate a specification and, if there is a file of them, input terms.
     Eval {
         options: EvalOptions,
         spec: Option<&'a str>,
         terms: Option<&'a str>,
     },
-    /// Answer requests by a specification; each stands in a file or on the standard input.
+    /// Answer the requests of a file, one line each, by a specification.
     Serve {
         options: EvalOptions,
         spec: Option<&'a str>,
         requests: Option<&'a str>,
     },
-    /// Print a term, which stands in a file or on the standard input, over several lines where it
-    /// is said how many blanks a level has.
+    /// Print a term, over several lines if there is a number of spaces for each level.
     Aterm {
         file: Option<&'a str>,
         indent: Option<u8>,
     },
-    /// Tell of each rule that fires while terms are evaluated.
+    /// Print each rewrite of an evaluation.
     Trace {
         options: EvalOptions,
         shown: Shown<'a>,
         spec: Option<&'a str>,
         terms: Option<&'a str>,
     },
-    /// Print a term and how many cells it takes; or, where it is said how many parts it may show,
-    /// the graph of its parts.
+    /// Print a term and its number of cells, or its graph if there is a largest number of nodes.
     Share {
         file: Option<&'a str>,
         nodes: Option<u32>,
     },
-    /// Match a pattern with a term, which stands in a file or on the standard input.
+    /// Match a pattern against a term.
     Match {
         pattern: &'a str,
         file: Option<&'a str>,
@@ -51,28 +51,35 @@ pub enum Request<'a> {
         pattern: &'a str,
         args: &'a str,
     },
-    /// Check specifications, which stand in the files that are given.
+    /// Check specifications, whose files are in [`Invocation`].
     Check {
-        /// Whether a warning is to count as a refusal.
-        is_strict: bool,
+        options: CheckOptions,
     },
+    /// List the words of a specification, or those that name the same as the word at a location.
+    Uses {
+        spec: Option<&'a str>,
+        at: Option<RulePlace>,
+    },
+    /// Join specifications, whose files are in [`Invocation`].
+    Join,
 }
 
 impl<'a> Request<'a> {
-    /// The file that is read first, where one is named.
+    /// Returns the file that is read first, if one is named.
     pub fn path(&self) -> Option<&'a str> {
         match *self {
             Request::Eval { spec, .. }
             | Request::Serve { spec, .. }
-            | Request::Trace { spec, .. } => spec,
+            | Request::Trace { spec, .. }
+            | Request::Uses { spec, .. } => spec,
             Request::Aterm { file, .. }
             | Request::Share { file, .. }
             | Request::Match { file, .. } => file,
-            Request::Make { .. } | Request::Check { .. } => None,
+            Request::Make { .. } | Request::Check { .. } | Request::Join => None,
         }
     }
 
-    /// The file of given terms, where one is named.
+    /// Returns the file of input terms, if one is named.
     pub fn terms_path(&self) -> Option<&'a str> {
         match *self {
             Request::Eval { terms, .. } | Request::Trace { terms, .. } => terms,
@@ -80,7 +87,7 @@ impl<'a> Request<'a> {
         }
     }
 
-    /// The file of requests, where one is named.
+    /// Returns the file of requests, if one is named.
     pub fn requests_path(&self) -> Option<&'a str> {
         match *self {
             Request::Serve { requests, .. } => requests,
@@ -88,7 +95,7 @@ impl<'a> Request<'a> {
         }
     }
 
-    /// Whether the standard input is named twice.
+    /// Returns whether standard input is named twice.
     fn is_read_twice(&self) -> bool {
         let is_standard = self.path().unwrap_or(STANDARD_INPUT) == STANDARD_INPUT;
         match *self {
@@ -98,29 +105,31 @@ impl<'a> Request<'a> {
     }
 }
 
-/// The path that stands for the standard input.
+/// The path that means standard input.
 pub const STANDARD_INPUT: &str = "-";
 
-/// What is asked for, and what is to be told of it.
+/// A command with the options that are common to all commands.
 #[derive(Drop)]
 pub struct Invocation<'a> {
-    /// What is to be done.
+    /// The command.
     pub request: Request<'a>,
-    /// Given terms that stand among the words; or the files of specifications to check.
+    /// The terms given with `-e`, or the files to check or to join.
     pub given: Vec<&'a str>,
-    /// Whether a refusal is to be explained.
+    /// The files of `--join`.
+    pub joined: Vec<&'a str>,
+    /// Whether errors are explained.
     pub explain: bool,
-    /// Whether the status is to tell that a pattern does not match, or that there is a limit line.
+    /// Whether the exit status reports that a pattern does not match, or that there is a limit line.
     pub has_outcome: bool,
 }
 
-/// What the words after the program's name ask for.
+/// Parses the arguments after the program's name.
 pub fn parse_words<'a>(alloc: Global, words: &'a [&'a str]) -> Result<Invocation<'a>, Error> {
     let mut command = command::command(alloc)?;
     read_by(alloc, &mut command, words)
 }
 
-/// What words ask for, by this command.
+/// Parses arguments with this parser.
 fn read_by<'a>(
     alloc: Global,
     command: &mut Command<'a>,
@@ -130,28 +139,36 @@ fn read_by<'a>(
     invocation_or_error(alloc, command, &matches)
 }
 
-/// What the matched words ask for.
+/// Returns the command that matched arguments describe, or a usage error.
 fn invocation_or_error<'a>(
     alloc: Global,
     command: &mut Command<'a>,
     matches: &ArgMatches<'a>,
 ) -> Result<Invocation<'a>, Error> {
     match bare_by(matches) {
-        Ok(asked) => Ok(asked.with(given_of(alloc, matches)?)),
+        Ok(asked) => Ok(asked.with(given_of(alloc, matches)?, joined_of(alloc, matches)?)),
         Err(Wrong { kind, message }) => Err(command.error(kind, message)?),
     }
 }
 
-/// The given terms among the words, or the files of specifications to check.
+/// Returns the files of `--join`.
+fn joined_of<'a>(alloc: Global, matches: &ArgMatches<'a>) -> Result<Vec<&'a str>, AllocError> {
+    match matches.subcommand() {
+        Some((_, inner)) => copy_of(alloc, inner.get_strs("join")),
+        None => Ok(Vec::new(alloc)),
+    }
+}
+
+/// Returns the terms given with `-e`, or the files to check or to join.
 fn given_of<'a>(alloc: Global, matches: &ArgMatches<'a>) -> Result<Vec<&'a str>, AllocError> {
     match matches.subcommand() {
-        Some(("check", inner)) => copy_of(alloc, inner.get_strs("SPEC")),
+        Some(("check" | "join", inner)) => copy_of(alloc, inner.get_strs("SPEC")),
         Some((_, inner)) => copy_of(alloc, inner.get_strs("term")),
         None => Ok(Vec::new(alloc)),
     }
 }
 
-/// A list of words, where there is one.
+/// Copies a list of arguments, if there is one.
 fn copy_of<'a>(alloc: Global, words: Option<&[&'a str]>) -> Result<Vec<&'a str>, AllocError> {
     match words {
         Some(words) => Vec::from_slice(alloc, words),
@@ -159,31 +176,46 @@ fn copy_of<'a>(alloc: Global, words: Option<&[&'a str]>) -> Result<Vec<&'a str>,
     }
 }
 
-/// What is asked for, but for the given terms among the words.
+/// A command without the terms given with `-e`.
 #[derive(Clone, Copy)]
 struct Bare<'a> {
-    /// What is to be done.
+    /// The command.
     request: Request<'a>,
-    /// Whether a refusal is to be explained.
+    /// Whether errors are explained.
     explain: bool,
-    /// Whether the status is to tell what came of it.
+    /// Whether the exit status reports the outcome.
     has_outcome: bool,
 }
 
-/// Whether the standard input is among the files to check twice.
-fn names_twice(request: &Request<'_>, inner: &ArgMatches<'_>) -> bool {
-    match (request, inner.get_strs("SPEC")) {
-        (Request::Check { .. }, Some(paths)) => {
+/// Returns how often an argument that may be repeated is standard input.
+fn standard_count(inner: &ArgMatches<'_>, id: &str) -> usize {
+    match inner.get_strs(id) {
+        Some(paths) => {
             let standard = paths.iter().filter(|path| **path == STANDARD_INPUT);
-            standard.count() > 1
+            standard.count()
+        }
+        None => 0,
+    }
+}
+
+/// Returns whether standard input is named twice among the files to check or to join.
+fn names_twice(request: &Request<'_>, inner: &ArgMatches<'_>) -> bool {
+    let joined = standard_count(inner, "join");
+    match request {
+        Request::Check { .. } | Request::Join => {
+            joined.saturating_add(standard_count(inner, "SPEC")) > 1
+        }
+        Request::Eval { spec, terms, .. } => {
+            let is_read = spec.is_none() || *terms == Some(STANDARD_INPUT);
+            joined > 1 || joined == 1 && is_read
         }
         _ => false,
     }
 }
 
 impl<'a> Bare<'a> {
-    /// The same with these given terms.
-    fn with(self, given: Vec<&'a str>) -> Invocation<'a> {
+    /// Adds the terms given with `-e` or the files to check or to join, and the files of `--join`.
+    fn with(self, given: Vec<&'a str>, joined: Vec<&'a str>) -> Invocation<'a> {
         let Bare {
             request,
             explain,
@@ -192,13 +224,14 @@ impl<'a> Bare<'a> {
         Invocation {
             request,
             given,
+            joined,
             explain,
             has_outcome,
         }
     }
 }
 
-/// What the matched words ask for, or what is wrong with them.
+/// Returns the command that matched arguments describe, or their error.
 fn bare_by<'a>(matches: &ArgMatches<'a>) -> Result<Bare<'a>, Wrong> {
     match matches.subcommand() {
         Some((name, inner)) => bare_of(name, inner),
@@ -206,7 +239,7 @@ fn bare_by<'a>(matches: &ArgMatches<'a>) -> Result<Bare<'a>, Wrong> {
     }
 }
 
-/// What the words of a subcommand ask for, or what is wrong with them.
+/// Returns the command with this name and its common options, or the error in its arguments.
 fn bare_of<'a>(name: &str, inner: &ArgMatches<'a>) -> Result<Bare<'a>, Wrong> {
     let request = request_of(name, inner)?;
     if request.is_read_twice() || names_twice(&request, inner) {
@@ -219,15 +252,17 @@ fn bare_of<'a>(name: &str, inner: &ArgMatches<'a>) -> Result<Bare<'a>, Wrong> {
     })
 }
 
-/// What the subcommand of this name is asked to do.
+/// Returns the command with this name, or the error in its arguments.
 fn request_of<'a>(name: &str, inner: &ArgMatches<'a>) -> Result<Request<'a>, Wrong> {
     match name {
         "trace" => trace_of(inner),
+        "uses" => uses_of(inner),
         _ => other_of(name, inner).ok_or(MISSING),
     }
 }
 
-/// The same of every other subcommand; `None` where a word is missing, or none has this name.
+/// Returns the command with this name, for all commands except `trace` and `uses`. `None` if an argument is
+/// missing, or no command has this name.
 fn other_of<'a>(name: &str, inner: &ArgMatches<'a>) -> Option<Request<'a>> {
     match name {
         "eval" => eval_of(inner),
@@ -243,18 +278,19 @@ fn other_of<'a>(name: &str, inner: &ArgMatches<'a>) -> Option<Request<'a>> {
         "match" => match_of(inner),
         "make" => make_of(inner),
         "check" => Some(Request::Check {
-            is_strict: inner.get_flag("strict"),
+            options: check_of(inner),
         }),
+        "join" => Some(Request::Join),
         _ => None,
     }
 }
 
-/// The path that a word names, where that is not the standard input.
+/// Returns the path of an argument. `None` if it is missing or means standard input.
 fn path_of<'a>(inner: &ArgMatches<'a>, id: &str) -> Option<&'a str> {
     inner.get_str(id).filter(|path| *path != STANDARD_INPUT)
 }
 
-/// What `eval` is asked to do.
+/// Returns the request of `eval`.
 fn eval_of<'a>(inner: &ArgMatches<'a>) -> Option<Request<'a>> {
     Some(Request::Eval {
         options: options_of(inner)?,
@@ -263,7 +299,7 @@ fn eval_of<'a>(inner: &ArgMatches<'a>) -> Option<Request<'a>> {
     })
 }
 
-/// What `trace` is asked to do.
+/// Returns the request of `trace`.
 fn trace_of<'a>(inner: &ArgMatches<'a>) -> Result<Request<'a>, Wrong> {
     let shown = shown_of(inner)?;
     let options = options_of(inner).ok_or(MISSING)?;
@@ -275,7 +311,15 @@ fn trace_of<'a>(inner: &ArgMatches<'a>) -> Result<Request<'a>, Wrong> {
     })
 }
 
-/// What `serve` is asked to do.
+/// Returns the request of `uses`.
+fn uses_of<'a>(inner: &ArgMatches<'a>) -> Result<Request<'a>, Wrong> {
+    Ok(Request::Uses {
+        spec: path_of(inner, "SPEC"),
+        at: word_place_of(inner)?,
+    })
+}
+
+/// Returns the request of `serve`.
 fn serve_of<'a>(inner: &ArgMatches<'a>) -> Option<Request<'a>> {
     Some(Request::Serve {
         options: options_of(inner)?,
@@ -284,7 +328,7 @@ fn serve_of<'a>(inner: &ArgMatches<'a>) -> Option<Request<'a>> {
     })
 }
 
-/// What `match` is asked to do.
+/// Returns the request of `match`.
 fn match_of<'a>(inner: &ArgMatches<'a>) -> Option<Request<'a>> {
     Some(Request::Match {
         pattern: inner.get_str("PATTERN")?,
@@ -292,7 +336,7 @@ fn match_of<'a>(inner: &ArgMatches<'a>) -> Option<Request<'a>> {
     })
 }
 
-/// What `make` is asked to do.
+/// Returns the request of `make`.
 fn make_of<'a>(inner: &ArgMatches<'a>) -> Option<Request<'a>> {
     Some(Request::Make {
         pattern: inner.get_str("PATTERN")?,

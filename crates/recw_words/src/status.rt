@@ -1,26 +1,26 @@
 //! The exit statuses.
 ghost use Rattle.std.specs.Prelude.{◌≡◌, ◌↔◌, ◌≤◌, true, false};
 
-/// All was done.
+/// The run is done.
 pub const DONE: u8 = 0;
 
-/// A text was refused.
+/// An input was rejected.
 pub const REFUSED: u8 = 1;
 
-/// The words were not understood.
+/// A usage error.
 pub const COMMAND_LINE: u8 = 2;
 
-/// Memory or cells ran out, or as many calls waited as may.
+/// Out of memory, out of cells, or call-depth limit reached.
 pub const OUT_OF_ROOM: u8 = 3;
 
-/// A stream failed.
+/// A read or a write failed.
 pub const STREAMS: u8 = 4;
 
-/// Some term was over its budget, or a value holds a call, where the status is to tell that.
+/// There is a limit line, or a result has a stuck call, and an option lets the status report it.
 pub const LIMIT: u8 = 5;
 
-/// The status of a match that is to tell whether the pattern matches. A refused text has that of
-/// wrong words then.
+/// Returns the exit status of `match --test`: 0 for a match, 1 for none. A rejected input has the
+/// status of a usage error then.
 pub fn match_status(status: u8, is_match: bool) -> u8
     ensures matches { (result ≡ 0) ↔ ((status ≡ 0) × (is_match ≡ true)) }
     ensures differs { (result ≡ 1) ↔ ((status ≡ 0) × (is_match ≡ false)) }
@@ -34,8 +34,8 @@ pub fn match_status(status: u8, is_match: bool) -> u8
     }
 }
 
-/// The status of an evaluation that is to tell whether some term was over its budget; or, by the
-/// same words, whether a value holds a call.
+/// Returns the exit status of an evaluation whose status reports an event: a limit line, or a stuck
+/// call.
 pub fn eval_status(status: u8, has_limit: bool) -> u8
     ensures done { (result ≡ 0) ↔ ((status ≡ 0) × (has_limit ≡ false)) }
     ensures limit { (status ≡ 0) × (has_limit ≡ true) → result ≡ 5 }

@@ -1,21 +1,21 @@
-//! What a text is called.
+//! Names of input texts in messages.
 
 use std::io;
 use std::io::Write;
 
-/// What a text is called.
+/// The name of an input text.
 #[derive(Clone, Copy)]
 pub enum TextName<'a> {
-    /// A path, or a name of the program's own.
+    /// A path, or a name such as `standard input`.
     Path(&'a str),
-    /// The word behind the option `-e` that stands behind so many others of them.
+    /// The term of the option `-e` with this index.
     Word(usize),
-    /// A line of a text, by its number, from 1.
+    /// A line of a text, from 1.
     Line { path: &'a str, number: u64 },
 }
 
 impl TextName<'_> {
-    /// Writes the name, each control character by its number.
+    /// Writes the name, with each control character by its number.
     pub fn write<W: Write>(self, out: &mut W) -> io::Result<()> {
         match self {
             TextName::Path(path) => write_visible(path, out),
@@ -31,7 +31,7 @@ impl TextName<'_> {
     }
 }
 
-/// Writes a text, each control character by its number.
+/// Writes a text, with each control character by its number.
 pub fn write_visible<W: Write>(text: &str, out: &mut W) -> io::Result<()> {
     for letter in text.chars() {
         write_letter(letter, out)?;
@@ -39,7 +39,7 @@ pub fn write_visible<W: Write>(text: &str, out: &mut W) -> io::Result<()> {
     Ok(())
 }
 
-/// Writes a character, a control character by its number.
+/// Writes a character; a control character by its number.
 fn write_letter<W: Write>(letter: char, out: &mut W) -> io::Result<()> {
     if !letter.is_control() {
         return write!(out, "{letter}");

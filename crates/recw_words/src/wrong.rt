@@ -1,30 +1,36 @@
-//! What is wrong with words that are there.
+//! Usage errors that the parser of arguments does not report itself.
 
 use clap::error::ErrorKind;
 
-/// What is wrong with words that the command takes.
+/// A usage error in arguments that the parser accepts.
 #[derive(Clone, Copy)]
 pub struct Wrong {
     /// The kind of the error.
     pub kind: ErrorKind,
-    /// What is said of it.
+    /// Its message.
     pub message: &'static str,
 }
 
-/// A word is missing, which the command rules out.
+/// A missing argument, which the parser rules out.
 pub const MISSING: Wrong = Wrong {
     kind: ErrorKind::MissingSubcommand,
     message: "a subcommand is missing",
 };
 
-/// The standard input is named twice.
+/// Standard input is named twice.
 pub const READ_TWICE: Wrong = Wrong {
     kind: ErrorKind::ArgumentConflict,
-    message: "the standard input can be read once only",
+    message: "standard input ('-') can be used only once",
 };
 
-/// A place of a rule is not two numbers.
-pub const NO_PLACE: Wrong = Wrong {
+/// The location of a word is not two numbers.
+pub const NO_WORD_PLACE: Wrong = Wrong {
     kind: ErrorKind::WrongNumberOfValues,
-    message: "--rule takes a line and a column, as in 3:5",
+    message: "--at requires a line and a column, such as 7:3",
+};
+
+/// The location of a rule is not two numbers.
+pub const NO_RULE_PLACE: Wrong = Wrong {
+    kind: ErrorKind::WrongNumberOfValues,
+    message: "--rule requires a line and a column, such as 3:5",
 };

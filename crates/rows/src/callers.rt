@@ -1,4 +1,4 @@
-//! The callers of `uses` over the plain bank, with answers that were worked out by hand.
+//! Tests of the clients in `uses` over the plain store, with results that were derived by hand.
 #![tactic(auto, using(rx_term::proofs::StoreLemmas::bank_steps))]
 
 ghost use Rattle.rx_term.specs.declared.Term.{Term};
@@ -20,7 +20,7 @@ use uses::rewriting::{pattern, rewrite};
 use uses::staying::{answer, kept_value, let_go, request};
 use uses::texts::{name_at, read_back, text_of};
 
-/// Its sum takes two steps by the second rule and one by the first.
+/// Addition. The sum takes two steps by the second rule and one by the first.
 const ADDITION: &[u8] = b"REC-SPEC Addition SORTS Nat \
     CONS z : -> Nat s : Nat -> Nat \
     OPNS plus : Nat Nat -> Nat \
@@ -32,34 +32,34 @@ const X: &[u8] = b"x";
 
 const Y: &[u8] = b"y";
 
-/// A bank of no terms.
+/// Returns an empty store.
 fn bank_of(rt: &impl Abort, alloc: Global) -> Box<PlainBank> {
     let bank = PlainBank::new(alloc, 1000).expect(rt, "a bank");
     Box::new(alloc, bank).expect(rt, "memory")
 }
 
-/// The reference of `x` with a line and a column.
+/// Makes `x` with a line and a column.
 fn x_at<B: TermBank>(rt: &impl Abort, bank: &mut B, line: i32, column: i32) -> Term {
     name_at(bank, X, line, column).expect(rt, "a located x")
 }
 
-/// The same of `y`.
+/// Makes `y` with a line and a column.
 fn y_at<B: TermBank>(rt: &impl Abort, bank: &mut B, line: i32, column: i32) -> Term {
     name_at(bank, Y, line, column).expect(rt, "a located y")
 }
 
-/// The reference of the term that a text spells.
+/// Reads the term of a text.
 fn term<B: TermBank>(rt: &impl Abort, alloc: Global, bank: &mut B, text: &[u8]) -> Term {
     read(alloc, text, bank).expect(rt, "a term")
 }
 
-/// Stops where the printed text of a term is not this one.
+/// Aborts the test unless a term has this printed text.
 fn expect_text<B: TermBank>(rt: &impl Abort, alloc: Global, bank: &B, t: Term, wanted: &[u8]) {
     assert!(rt; bank.holds(t));
     assert!(rt; text_of(alloc, bank, t).expect(rt, "a text").as_slice() == wanted);
 }
 
-/// Stops where a located name is not printed as it should be, or not read back from its own text.
+/// Aborts the test unless a located name is printed as expected, and read back from its text.
 fn print_and_read<B: TermBank>(rt: &impl Abort, alloc: Global, bank: &mut B) {
     let x = x_at(rt, bank, 3, -7);
     expect_text(rt, alloc, bank, x, b"x{at(3,-7)}");
@@ -72,12 +72,12 @@ fn builds_prints_and_reads_back(rt: HostRuntime) {
     print_and_read(&rt, rt.alloc(), &mut *bank_of(&rt, rt.alloc()));
 }
 
-/// The pattern that a text spells.
+/// Reads the pattern of a text.
 fn pattern_of<B: TermBank>(rt: &impl Abort, alloc: Global, bank: &mut B, text: &[u8]) -> Pattern {
     pattern(alloc, bank, text).expect(rt, "a pattern")
 }
 
-/// What the right pattern makes of what the left one binds in the term that a text spells.
+/// Rewrites the term of a text with two patterns.
 fn rewrite_text<B: TermBank>(
     rt: &impl Abort,
     alloc: Global,
@@ -91,7 +91,8 @@ fn rewrite_text<B: TermBank>(
     rewrite(alloc, bank, left, right, t).expect(rt, "a step, or none")
 }
 
-/// Stops where `plus` with an integer behind is not rewritten to `add`, or another `plus` is.
+/// Aborts the test unless `plus` with an integer as its second argument is rewritten to `add`, and
+/// no other `plus` is rewritten.
 fn rewrite_sums<B: TermBank>(
     rt: &impl Abort,
     alloc: Global,
@@ -106,7 +107,7 @@ fn rewrite_sums<B: TermBank>(
     assert!(rt; rewrite_text(rt, alloc, bank, left, right, b"plus(1,x)").is_none());
 }
 
-/// The same, by the patterns of two texts.
+/// Tests the same rewriting with the patterns of two texts.
 fn rewrite_by_texts<B: TermBank>(rt: &impl Abort, alloc: Global, bank: &mut B) {
     let left = pattern_of(rt, alloc, bank, b"plus(<term>,<int>)");
     let right = pattern_of(rt, alloc, bank, b"add(<term>,[<int>])");
@@ -118,7 +119,8 @@ fn rewrites_by_patterns(rt: HostRuntime) {
     rewrite_by_texts(&rt, rt.alloc(), &mut *bank_of(&rt, rt.alloc()));
 }
 
-/// Stops where other numbers of cells are taken, or more is left than is needed.
+/// Aborts the test unless the terms take the expected numbers of cells, and a collection leaves
+/// only the needed ones.
 fn keep_one<B: TermBank>(rt: &impl Abort, bank: &mut B) {
     let x = x_at(rt, bank, 3, 7);
     // x{at(3,7)}, [at(3,7)], at(3,7), [3,7], [7], [], 3 and 7, and the constant x
@@ -129,7 +131,7 @@ fn keep_one<B: TermBank>(rt: &impl Abort, bank: &mut B) {
     keep_first(rt, bank, x, y);
 }
 
-/// The same of what is left of two terms, where the first one alone is kept.
+/// Tests a collection that keeps only the first of two terms.
 fn keep_first<B: TermBank>(rt: &impl Abort, bank: &mut B, x: Term, y: Term) {
     assert!(rt; bank.holds(x));
     assert!(rt; matches!(keep(bank, x), Ok(8)));
@@ -141,13 +143,13 @@ fn keeps_what_is_needed(rt: HostRuntime) {
     keep_one(&rt, &mut *bank_of(&rt, rt.alloc()));
 }
 
-/// A specification, of which only that it is one is known.
+/// Returns a checked specification of addition.
 fn addition(rt: &impl Abort, alloc: Global) -> Box<Checked> {
     let addition = specification_of(alloc, ADDITION).expect(rt, "a specification");
     Box::new(alloc, addition).expect(rt, "memory")
 }
 
-/// An engine for a specification over a bank.
+/// Returns an engine for a specification over a store.
 fn engine_of<B: TermBank + Drop>(
     rt: &impl Abort,
     alloc: Global,
@@ -162,7 +164,7 @@ fn engine_of<B: TermBank + Drop>(
     Box::new(alloc, engine).expect(rt, "memory")
 }
 
-/// The term that a text spells, once it is known to be one that can be evaluated.
+/// Reads and protects a term that can be evaluated.
 fn admit_text<B: TermBank>(
     rt: &impl Abort,
     alloc: Global,
@@ -178,7 +180,7 @@ fn admit_text<B: TermBank>(
     t
 }
 
-/// Stops where a text is another one, or none that should be there.
+/// Aborts the test unless a text is this one, or is missing as expected.
 fn expect_found(rt: &impl Abort, found: &Option<Vec<u8>>, wanted: Option<&[u8]>) {
     match (found, wanted) {
         (Some(text), Some(wanted)) => assert!(rt; text.as_slice() == wanted),
@@ -187,7 +189,7 @@ fn expect_found(rt: &impl Abort, found: &Option<Vec<u8>>, wanted: Option<&[u8]>)
     }
 }
 
-/// Stops where a given term does not come to a text within so many steps.
+/// Aborts the test unless an input term has this result within `n` steps.
 fn expect_given<B: TermBank>(
     rt: &impl Abort,
     alloc: Global,
@@ -202,7 +204,8 @@ fn expect_given<B: TermBank>(
     expect_found(rt, &found, wanted);
 }
 
-/// Stops where a given sum with an annotation does not come to a text within so many steps.
+/// Aborts the test unless an input term, a sum with an annotation, has this result within `n`
+/// steps.
 fn evaluate_given<B: TermBank + Drop>(
     rt: &impl Abort,
     alloc: Global,
@@ -216,7 +219,7 @@ fn evaluate_given<B: TermBank + Drop>(
     expect_given(rt, alloc, &mut engine, sum, n, wanted);
 }
 
-/// Stops where an engine's first own term does not come to a text within so many steps.
+/// Aborts the test unless the first EVAL term has this result within `n` steps.
 fn expect_own<B: TermBank>(
     rt: &impl Abort,
     alloc: Global,
@@ -229,7 +232,7 @@ fn expect_own<B: TermBank>(
     expect_found(rt, &found, wanted);
 }
 
-/// The same of the specification's own sum.
+/// Aborts the test unless the sum of the specification has this result within `n` steps.
 fn evaluate_own<B: TermBank + Drop>(
     rt: &impl Abort,
     alloc: Global,
@@ -255,7 +258,7 @@ fn evaluates_own_terms(rt: HostRuntime) {
     evaluate_own(&rt, alloc, bank_of(&rt, alloc), 3, Some(b"s(s(s(z)))"));
 }
 
-/// Stops where the term that a text spells is not refused.
+/// Aborts the test unless the term of a text is rejected.
 fn refuse_foreign<B: TermBank>(
     rt: &impl Abort,
     alloc: Global,
@@ -275,7 +278,7 @@ fn refuses_foreign_terms(rt: HostRuntime) {
     refuse_foreign(&rt, rt.alloc(), spec, bank, b"minus(s(z),z)");
 }
 
-/// The numbered words of the term that a text spells.
+/// Returns the postfix items of the term of a text.
 fn request_letters(rt: &impl Abort, alloc: Global, addition: &Checked, text: &[u8]) -> Vec<Letter>
     ensures { (u : Tree) × Spells addition.now.spec result.items u }
 {
@@ -283,7 +286,7 @@ fn request_letters(rt: &impl Abort, alloc: Global, addition: &Checked, text: &[u
     request(alloc, addition, requests, text).expect(rt, "a term to evaluate")
 }
 
-/// Stops where the term that a text spells does not come to a text within so many steps.
+/// Aborts the test unless the term of a text has this result within `n` steps.
 fn expect_answer<B: TermBank>(
     rt: &impl Abort,
     alloc: Global,
@@ -299,7 +302,7 @@ fn expect_answer<B: TermBank>(
     expect_found(rt, &found, wanted);
 }
 
-/// The value of the term that a text spells, which is there within so many steps.
+/// Evaluates the term of a text within `n` steps, and protects the result.
 fn keep_value_of<B: TermBank>(
     rt: &impl Abort,
     alloc: Global,
@@ -314,7 +317,7 @@ fn keep_value_of<B: TermBank>(
     found.expect(rt, "a value")
 }
 
-/// Stops where a value that is let go has another text.
+/// Aborts the test unless a dropped result has this text.
 fn expect_let_go<B: TermBank>(
     rt: &impl Abort,
     alloc: Global,
@@ -328,8 +331,8 @@ fn expect_let_go<B: TermBank>(
     assert!(rt; text.as_slice() == wanted);
 }
 
-/// Stops where terms that are given one after the other come to other values, or one that is kept
-/// meanwhile is not there in the end.
+/// Aborts the test unless terms that are evaluated one after the other have the expected results,
+/// and one that is kept meanwhile is still there at the end.
 fn ask_in_turn<B: TermBank>(rt: &impl Abort, alloc: Global, engine: &mut Engine<B>) {
     let kept = keep_value_of(rt, alloc, engine, b"plus(s(z),s(z))", 2);
     expect_answer(rt, alloc, engine, b"plus(s(s(z)),z)", 2, None);

@@ -1,4 +1,4 @@
-//! Calls on worked texts, layer by layer.
+//! Test cases for each layer.
 
 mod banks;
 mod cases;

@@ -1,4 +1,4 @@
-//! Each call of the C library with ample memory, beside what was worked out by hand.
+//! The calls of the C library with enough memory, and their results, which were derived by hand.
 
 ghost use Rattle.std.specs.Prelude.{◌≡◌, None};
 ghost use Rattle.psilt_work.specs.Handles.{work_of};
@@ -11,17 +11,17 @@ use psilt_work::{Fault, Psilt, Work};
 use std::alloc::Global;
 use std::process::Abort;
 
-/// A store of at most so many cells.
+/// Makes a store with this capacity.
 fn store(rt: &impl Abort, alloc: Global, cells: u32) -> Box<Work> {
     Work::new(alloc, cells).expect(rt, "a store")
 }
 
-/// Asks rows of an empty store.
+/// Runs test cases on an empty store.
 fn ask_anew(rt: &impl Abort, alloc: Global, cells: u32, rows: &[Row]) {
     ask(rt, alloc, &mut store(rt, alloc, cells), rows);
 }
 
-/// How many cells a store has, and what it is asked.
+/// The capacities of stores, and the test cases for each.
 const ASKED: [(u32, &[Row]); 9] = [
     (100, &rows::MAKES),
     (100, &rows::PARTS),
@@ -41,18 +41,18 @@ fn calls_of_a_store(rt: HostRuntime) {
     }
 }
 
-/// Whether a buffer takes the text `f`, and its second byte stays.
+/// Returns whether a buffer receives the text `f`, and its second byte is unchanged.
 fn is_copied(work: &Work) -> bool {
     let mut buffer = *b"##";
     work.copy(&mut buffer) == Ok(()) && buffer == *b"f#"
 }
 
-/// Whether a buffer is refused that is too short.
+/// Returns whether a buffer that is too short is an error.
 fn is_too_short(work: &Work) -> bool {
     work.copy(&mut []) == Err(Fault::Range)
 }
 
-/// What is refused of a text, and a buffer that is too short.
+/// Tests errors of texts, and a buffer that is too short.
 fn refuses(rt: &impl Abort, alloc: Global, work: &mut Work) {
     ask(rt, alloc, work, &rows::REFUSES);
     assert!(rt; is_copied(work));
@@ -64,19 +64,19 @@ fn texts_are_refused(rt: HostRuntime) {
     refuses(&rt, rt.alloc(), &mut store(&rt, rt.alloc(), 100));
 }
 
-/// Whether nothing can be taken out of a handle, which is closed then.
+/// Returns whether nothing can be taken out of a handle, which is closed afterwards.
 fn is_closed(alloc: Global, psilt: &mut Psilt) -> bool
     ensures { work_of psilt.new ≡ None }
 {
     psilt.take(alloc).is_none()
 }
 
-/// Whether a work makes an integer.
+/// Returns whether an integer can be made.
 fn makes_one(work: &mut Work) -> bool {
     work.int(1).is_ok()
 }
 
-/// What is put into a handle is taken out of it once, and can be worked with.
+/// Checks that the contents of a handle can be taken out once, and used.
 fn opens_and_closes(rt: &impl Abort, alloc: Global, psilt: &mut Psilt) {
     assert!(rt; is_closed(alloc, psilt));
     psilt.put(store(rt, alloc, 10));
@@ -85,7 +85,7 @@ fn opens_and_closes(rt: &impl Abort, alloc: Global, psilt: &mut Psilt) {
     assert!(rt; makes_one(&mut work));
 }
 
-/// Whether a store of at most so many cells is refused.
+/// Returns whether a store with this capacity is an error.
 fn is_refused(alloc: Global, cells: u32) -> bool {
     Work::new(alloc, cells).is_err()
 }

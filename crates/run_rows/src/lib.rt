@@ -1,5 +1,20 @@
-//! Worked rows as tests: what whole runs write for which texts, and what each call of the C library
-//! comes to.
+//! Tests of whole runs and of the calls of the C library, with worked examples.
+//!
+//! Contracts state that a run that succeeds writes the specified output. These tests compare
+//! concrete outputs, and check that runs succeed if there is memory, what each limit does, and how
+//! often a store is used. The crate has nothing but tests.
+//!
+//! | Module | Subject |
+//! |---|---|
+//! | `rows::spec`, `rows::given`, `rows::limits` | specifications, input terms, sizes of texts |
+//! | `rows::term`, `rows::look`, `rows::pattern` | terms, indented terms, patterns |
+//! | `rows::serve`, `rows::depth` | sessions, call depth |
+//! | `rows::bank`, `rows::cells`, `rows::counting` | the use of the store, and small stores |
+//! | `rows::hostile`, `rows::streams`, `rows::performing` | readers and writers that fail |
+//! | `calls` | the calls of the C library |
+//!
+//! Functions called `expect_..` abort the test if the expectation does not hold. Run one test with
+//! `rt test` in this folder.
 #![tactic(auto)]
 
 #[cfg(test)]

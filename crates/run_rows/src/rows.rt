@@ -1,4 +1,4 @@
-//! Runs on worked texts, and what their answers are compared with.
+//! Runs on worked examples, and comparison of their results.
 
 mod bank;
 mod cells;
@@ -15,18 +15,19 @@ mod spec;
 mod streams;
 mod term;
 
-use rec_run::{Finish, Place, RunFault, RunOptions, run_at};
+use rec_run::{RunOptions, run_at};
+use rx_run::{Finish, Place, RunFault};
 use std::alloc::Global;
 use std::io::Read;
 use std::process::Abort;
 
-/// How many bytes a text may have.
+/// The largest size of a text, in bytes.
 pub(crate) const LIMIT: usize = 16_777_216;
 
-/// One byte more than a text may have.
+/// One byte more than the largest size.
 pub(crate) const PAST: usize = LIMIT + 1;
 
-/// Addition, with a term to evaluate.
+/// A specification of addition, with these terms to evaluate.
 macro_rules! addition {
     ($term:literal) => {
         concat!(
@@ -44,9 +45,10 @@ macro_rules! addition {
 
 pub(crate) use addition;
 
+/// Addition, with the sum of two and one.
 pub(crate) const ADD: &str = addition!("plus(s(s(z)),s(z))");
 
-/// A specification of each section, with one rule.
+/// A specification with all sections and one rule.
 pub(crate) const Q: &str = "REC-SPEC Q \
     SORTS A B \
     CONS a : -> A b : -> B \
@@ -55,7 +57,7 @@ pub(crate) const Q: &str = "REC-SPEC Q \
     RULES f(X) -> X \
     EVAL f(a) END-SPEC";
 
-/// Options of a run with so many steps at most for a term.
+/// Returns options with this step limit.
 pub(crate) fn options(steps: u32, count: bool) -> RunOptions {
     RunOptions {
         steps: u64::from(steps),
@@ -66,7 +68,7 @@ pub(crate) fn options(steps: u32, count: bool) -> RunOptions {
     }
 }
 
-/// What a run came to.
+/// The result of a run.
 #[derive(Drop)]
 pub(crate) struct Ran {
     pub(crate) result: Result<Finish, RunFault>,
@@ -74,7 +76,7 @@ pub(crate) struct Ran {
     pub(crate) written: Vec<u8>,
 }
 
-/// What a run on a specification came to, and on given terms if there are any.
+/// Runs a specification with input terms, if there are any.
 pub(crate) fn run_on<T: Read>(
     alloc: Global,
     spec: &mut &[u8],
@@ -91,7 +93,7 @@ pub(crate) fn run_on<T: Read>(
     }
 }
 
-/// Stops where a run ended otherwise, told another place, or wrote other lines.
+/// Aborts the test unless the run ended like this, with this offset and these lines.
 pub(crate) fn expect_ran(
     rt: &impl Abort,
     ran: &Ran,
@@ -107,19 +109,19 @@ pub(crate) fn expect_ran(
     );
 }
 
-/// Adds a text's end.
+/// Appends a text.
 pub(crate) fn push(rt: &impl Abort, text: &mut String, end: &str) {
     assert!(rt; text.push_str(end).is_ok());
 }
 
-/// Adds a text so often.
+/// Appends a text `times` times.
 pub(crate) fn push_often(rt: &impl Abort, text: &mut String, part: &str, times: u32) {
     for _ in 0..times {
         push(rt, text, part);
     }
 }
 
-/// A text with blanks up to a length.
+/// Returns a text that is padded with spaces to a length.
 pub(crate) fn pad(rt: &impl Abort, alloc: Global, text: &str, length: usize) -> Vec<u8> {
     let mut padded = Vec::from_slice(alloc, text.as_bytes()).expect(rt, "memory");
     assert!(rt; padded.resize(length, b' ').is_ok());

@@ -36,7 +36,7 @@ roots_marked old new k y is s =
       | inr h ↦ ap root_count (get_or-put_other old.cells k s (option_map (with_marking y) (get_or old.cells k None)) h.1)
     ]
 
--- the first slot of a chain stands in it
+-- the first slot of a chain is in it
 pub first_chained : (a : ArenaState) (c : ℕ) (first : Option Slot) → IsFirst first (chain_at a c) → IfSome first (λ s. InChain a s.0)
 first_chained a c None h = tt
 first_chained a c (Some s) h = in_chain_at a c s.0 (subst (λ z. 0 < times s.0 z) (sym h.1) (omega (arith, one_if-same s.0)))
@@ -46,7 +46,7 @@ pub first_taken : (a : ArenaState) (c : ℕ) (first : Option Slot) → IsArena a
 first_taken a c None law h = tt
 first_taken a c (Some s) law h = law.chained_taken s.0 (first_chained a c (Some s) h)
 
--- the slot after one stands in a chain
+-- the slot after one is in a chain
 pub next_chained : (a : ArenaState) (k : ℕ) (next : Option Slot) → InChain a k
     → ((c : ℕ) (before after : List ℕ) → chain_at a c ≡ before ++ k ∷ after → IsFirst next after) → IfSome next (λ s. InChain a s.0)
 next_chained a k None h found = tt

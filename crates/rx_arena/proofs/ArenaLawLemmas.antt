@@ -160,7 +160,7 @@ module _ (a : ArenaState) (law : IsArena a) where
         small_cap = law.small_cap;
       }
 
-  -- the first of the gray slots stands there alone
+  -- the first of the gray slots is there alone
   pub gray_first_away : (s : ℕ) (rest : List ℕ) → a.gray ≡ s ∷ rest → times s rest ≡ 0
   gray_first_away s rest e = let one = subst (λ z. times s z ≤ 1) e (law.gray_once s) in omega (arith, one, one_if-same s)
 
@@ -232,7 +232,7 @@ times_in-take s zero xs = omega arith
 times_in-take s (suc n) [] = omega arith
 times_in-take s (suc n) (x ∷ xs) = omega (arith, times_in-take s n xs)
 
--- a chain of the arena behind n empty ones
+-- a chain of the arena after n empty ones
 pub behind_law : (a : ArenaState) → IsArena a → (n : ℕ) → n ≤ 2 ^ 30 → IsArena (record a { chains = set (replicate (n + 1) []) n (chain_at a 0) })
 behind_law a law n le =
     let none : List ℕ = [] in
@@ -249,7 +249,7 @@ pub cleared_law : (a : ArenaState) → IsArena a → (n : ℕ) → n ≤ 2 ^ 30 
 cleared_law a law n le = chains_law a law (replicate n []) (λ s. omega (arith, times_in-replicate s n)) (let none : List ℕ = [] in
     omega (arith, le, length-replicate n none))
 
--- all marks are forgotten, where no slot is gray
+-- all marks are forgotten, if no slot is gray
 unmarked_some : (o : Option Taken) (t : Taken) → o ≡ Some t → option_map (with_marking false) o ≡ Some (with_marking false t)
 unmarked_some o t e = ap (option_map (with_marking false)) e
 

@@ -124,7 +124,7 @@ turned_cells turned [] h = refl
 turned_cells turned (None ∷ xs) h = ap (λ zs. None ∷ zs) (turned_cells turned xs (λ s. h (suc s)))
 turned_cells turned (Some n ∷ xs) h = λ i. Some (h 0 n refl i) ∷ turned_cells turned xs (λ s. h (suc s)) i
 
--- what is shown where one more slot is taken
+-- what is shown if one more slot is taken
 pub shown_taken : (p q : PoolState) (s : ℕ) (b : CellBody) → q.cells ≡ put p.cells s (Some (lone (mark_of p.turned false) b)) → q.turned ≡ p.turned
     → map (option_map (shown_of q.turned)) q.cells ≡ put (map (option_map (shown_of p.turned)) p.cells) s (Some (new_cell b))
 shown_taken p q s b e et =
@@ -199,7 +199,7 @@ module _ (x : Inside) (law : IsArena (opened x)) where
   pub within_heads : (c : ℕ) → c < length a.chains → c < length heads
   within_heads c lt = omega (arith, lt, heads_length)
 
-  -- a slot that is held is below what stands for none
+  -- a slot that is held is below what represents none
   pub held_small : (next : Option ℕ) → IfSome next (IsHeld p.cells) → IfSome next (λ t. t < 4294967295)
   held_small None h = tt
   held_small (Some t) h = let below = law.below t (shown_of p.turned h.0, shown_at t ∙ ap (option_map (shown_of p.turned)) h.1) in let cap =
@@ -312,7 +312,7 @@ module _ (x : Inside) (law : IsArena (opened x)) where
           law = pop_law a law c s front.0 lt front.1;
         }
 
-  -- a slot leaves its chain, from behind another one
+  -- a slot leaves its chain, from after another one
   pub skip_step : (q : PoolState) (c b s : ℕ) (front rest : List ℕ) (next : Option ℕ) → c < length a.chains → chain_at a c ≡ front ++ b ∷ s ∷ rest
       → ((t : ℕ) → times t (front ++ b ∷ s ∷ rest) ≤ 1)
       → get_or (chain_links p.cells) s None ≡ Some next → IsTaken a b → q ≡ record p { cells = altered b (with_chain next) p.cells }
@@ -521,7 +521,7 @@ truncated ls (suc n) [] (c ∷ cs) a = absurd a
 truncated ls (suc n) (h ∷ hs) [] a = absurd a
 truncated ls (suc n) (h ∷ hs) (c ∷ cs) a = (a.0, truncated ls n hs cs a.1)
 
--- the first chain goes behind n empty ones
+-- the first chain goes after n empty ones
 pub behind_step : (x : Inside) (law : IsArena (opened x)) (new : List (Option ℕ)) (n : ℕ) (head : Option ℕ) → head ≡ get_or x.heads 0 None → n ≤ 2 ^ 30
     → new ≡ set (replicate (n + 1) None) n head → ArenaStep x.pool new x.gray_first
     (record (opened x) { chains = set (replicate (n + 1) []) n (get_or x.chained.0 0 []) })

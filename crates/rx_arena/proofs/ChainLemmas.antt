@@ -71,7 +71,7 @@ pub pushed : (ls ms : Links) (s : ℕ) (first : Option ℕ) (ss : List ℕ) → 
 pushed ls ms s first ss away same at_s c =
     (refl, some_leads (get_or ms s None) (λ next. IsChain ms next ss) first at_s (chain_stays ls ms s first ss away same c))
 
--- a slot's link leads past the slot behind it
+-- a slot's link leads past the slot after it
 pub skipped : (ls ms : Links) (b s : ℕ) (first : Option ℕ) (front rest : List ℕ) (next : Option ℕ) → ((t : ℕ) → times t (front ++ b ∷ s ∷ rest) ≤ 1)
     → ((t : ℕ) → t ≢ b → get_or ms t None ≡ get_or ls t None)
     → get_or ls s None ≡ Some next → get_or ms b None ≡ Some next → IsChain ls first (front ++ b ∷ s ∷ rest) → IsChain ms first (front ++ b ∷ rest)

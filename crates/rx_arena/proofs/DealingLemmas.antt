@@ -199,7 +199,7 @@ module _ (init : ArenaState) (i : ℕ) (self : ArenaState) (inv : Gathering init
   gathered_all t = ap (times t) (ap (λ (z : List (List ℕ)). get_or z 0 []) first_chains ∙ get_or-take 1 self.chains 0 [] (omega arith)) ∙ inv.first t
       ∙ ap (times_in t) (take_all i init.chains all)
 
--- one chain stands behind n empty ones
+-- one chain is after n empty ones
 module _ (one put : ArenaState) (n : ℕ) (behind : put ≡ record one { chains = set (replicate (n + 1) []) n (chain_at one 0) }) where
   put_chains : put.chains ≡ set (replicate (n + 1) []) n (chain_at one 0)
   put_chains = ap (λ (v : ArenaState). v.chains) behind
@@ -257,7 +257,7 @@ module _ (one put : ArenaState) (n : ℕ) (behind : put ≡ record one { chains 
           = λ i. cond (nat_eq (hash i % n) c) (count i) 0 in
           omega (arith, here, gain, before, is)
 
--- no slot stands in none of the chains
+-- no slot is in none of the chains
 pub nothing_inside : (css : List (List ℕ)) → length css ≡ 0 → (t : ℕ) → times_in t css ≡ 0
 nothing_inside [] e t = refl
 nothing_inside (c ∷ cs) e t = absurd (omega (arith, e))

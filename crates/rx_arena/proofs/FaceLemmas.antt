@@ -71,11 +71,11 @@ small_apart zero le = refl
 small_apart (suc zero) le = refl
 small_apart (suc (suc k)) le = absurd (omega (arith, le))
 
--- the word beside a cell that was not given back
+-- the word beside a cell that was not freed
 pub word-taken : (n : Node) → n.mark ≤ 1 → word_beside (Some n) ≡ word_of n.body
 word-taken n le = ap (λ z. cond z ask (word_of n.body)) (small_apart n.mark le)
 
--- a mark of a cell that was not given back keeps the word
+-- a mark of a cell that was not freed keeps the word
 pub marked_word : (k : ℕ) (o : Option Node) → k ≤ 1 → IfSome o (λ n. n.mark ≤ 1) → word_beside (option_map (with_mark k) o) ≡ word_beside o
 marked_word k None le h = refl
 marked_word k (Some n) le h = word-taken (with_mark k n) le ∙ sym (word-taken n h)
@@ -136,7 +136,7 @@ pub face-parts : (w k x y : ℕ) (b : CellBody) → w ≢ ask → w ≡ word_of 
     → record { kind = k; a = x; b = y; anns = None } ≡ face_of b
 face-parts w k x y b ne e ek ea eb = λ i. record { kind = ek i; a = ea i; b = eb i; anns = anns-said w b ne e i }
 
--- a word that says what a cell says is that of a cell which was not given back
+-- a word that says what a cell says is that of a cell which was not freed
 pub word-node : (o : Option Node) (w : ℕ) → w ≢ ask → w ≡ word_beside o → (n : Node) × (o ≡ Some n) × (n.mark ≢ 2) × (w ≡ word_of n.body)
 word-node None w ne e = absurd (ne e)
 word-node (Some n) w ne e = by_mark (nat_eq n.mark 2) refl where

@@ -1,4 +1,4 @@
--- The heads of chains stand at different places.
+-- The heads of chains are at different places.
 use Rattle.std.proofs.Common.{◌≡◌, ℕ, set, ◌+◌, ◌-◌, ◌*◌, ◌%◌, ◌^◌, ◌<◌, ◌≤◌, Bool, true, false, List, Option, None, length}
 use Rattle.std.proofs.Common.{inl, inr, refl, sym, ap, subst, ◌∙◌, arith, bit_and, w32}
 use Rattle.std.specs.Prelude.{get_or, cond, replicate, take, zero, suc}

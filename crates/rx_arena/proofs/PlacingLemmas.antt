@@ -45,7 +45,7 @@ module _ (init : ArenaState) (n k : ℕ) (self : ArenaState) (inv : Placing init
     two_to : chain_at two to ≡ k ∷ chain_at self to
     two_to = ap (λ (z : List (List ℕ)). get_or z to []) two_chains ∙ get_or-set_same self.chains to (k ∷ chain_at self to) [] (omega (arith, below, inv.lens))
 
-    -- how often slot s stands in chain c now
+    -- how often slot s is in chain c now
     gained : (c s : ℕ) → times s (chain_at two c) ≡ times s (chain_at self c) + cond (nat_eq to c) (one_if k s) 0
     gained c s = elim (one_or_two c to) [
       | inl h ↦ (let hit : cond (nat_eq to c) (one_if k s) 0 ≡ one_if k s = ap (λ b. cond b (one_if k s) 0) (eq-eqb to c (sym h.1)) in

@@ -1,4 +1,4 @@
--- The store under a pool: what its slots hold as they are taken, given back and changed.
+-- The store under a pool: what its slots hold as they are taken, freed and changed.
 use Rattle.std.proofs.Common.{◌≡◌, ◌≢◌, ℕ, zero, suc, ◌+◌, ◌-◌, ◌<◌, ◌≤◌, ◌⊎◌, inl, inr, List, [], ◌∷◌, ◌++◌}
 use Rattle.std.proofs.Common.{length, get_or, set, take, true, Some, None, refl, sym, ap, subst, ◌∙◌, arith}
 use Rattle.std.specs.Prelude.{Option, replicate, nat_eq, true}
@@ -90,7 +90,7 @@ cells-set slots free fresh s v away lt le =
 free_apart : (ss : List ℕ) (s t : ℕ) → times s ss ≡ 0 → 0 < times t ss → t ≢ s
 free_apart ss s t away h e = (let here : 0 < times s ss = subst (λ z. 0 < times z ss) e h in omega (arith, here, away))
 
--- no cell of these was given back
+-- no cell of these was freed
 abbrev AreTaken : List (Option Node) → Type 0
 AreTaken xs = (t : ℕ) (n : Node) → get_or xs t None ≡ Some n → n.mark ≤ 1
 
@@ -111,7 +111,7 @@ module _ (slots : List (Option Node)) (free : List ℕ) (fresh taken room cap : 
   in_store : fresh ≤ length slots
   in_store = omega (arith, p.room_is, p.fresh_in_room)
 
-  -- a slot that was given back is one that was taken
+  -- a slot that was freed is one that was taken
   free_below : (s : ℕ) → 0 < times s free → s < fresh
   free_below s h = elim (lt_or_le s fresh) [
     | inl lt ↦ lt
@@ -160,7 +160,7 @@ module _ (slots : List (Option Node)) (free : List ℕ) (fresh taken room cap : 
         cap_small = p.cap_small;
       }
 
-  -- the slot that was given back last is taken again
+  -- the slot that was freed last is taken again
   module _ (s : ℕ) (rest : List ℕ) (split : free ≡ s ∷ rest) (held_s : IsHeld slots s) where
     pub reused-away : times s rest ≡ 0
     reused-away = let o = subst (λ (z : List ℕ). times s z ≤ 1) split (p.once s) in omega (arith, o, one_if-same s)
@@ -260,7 +260,7 @@ module _ (slots : List (Option Node)) (free : List ℕ) (fresh taken room cap : 
             cap_small = p.cap_small;
           }
 
-  -- a taken slot is given back
+  -- a taken slot is freed
   module _ (s : ℕ) (n : Node) (e : get_or (cells_of slots free fresh) s None ≡ Some n) (m : Node) where
     pub given_back-at : IsTakenAt slots free fresh s n
     given_back-at = taken_at slots free fresh s n e

@@ -27,7 +27,7 @@ mark_of_small false true = omega arith
 mark_of_small true false = omega arith
 mark_of_small true true = omega arith
 
--- neither is that of a cell that was given back
+-- neither is that of a cell that was freed
 two_apart : (turned : Bool) → nat_eq 2 (mark_of turned false) ≡ false
 two_apart false = refl
 two_apart true = refl
@@ -214,7 +214,7 @@ module _ (x : Inside) (p : IsPool x.store x.listed.0 x.fresh x.taken x.room x.ca
       let small = p.cap_small in
       omega (arith, lt, p.room_is, p.room_in_cap, small)
 
-  -- the free list's first slot is below what stands for none
+  -- the free list's first slot is below what represents none
   pub first_small : IfSome first (λ t. t < 4294967295)
   first_small = small_of first (first_some (frees slots) first l.0 l.1)
 
@@ -242,7 +242,7 @@ module _ (x : Inside) (p : IsPool x.store x.listed.0 x.fresh x.taken x.room x.ca
     by_cell None e = e
     by_cell (Some n) e = absurd (let lt = (taken_at slots l.0 fresh s n e).below in omega (arith, lt, le))
 
-  -- what lies at a slot that was ever taken: a taken cell, or one that was given back
+  -- what lies at a slot that was ever taken: a taken cell, or one that was freed
   known_at : (s k : ℕ) → s < fresh → IfSome (get_or slots s None) (λ n. k ≡ n.mark)
       → ((k ≤ 1) × ((n : Node) × (get_or cells s None ≡ Some n) × (k ≡ n.mark))) ⊎ ((k ≡ 2) × (get_or cells s None ≡ None))
   known_at s k lt read = elim (one_or_more (times s l.0)) [

@@ -28,7 +28,7 @@ besides-away s (t ∷ ts) e = elim (eqb_tells t s) [
   | inr h ↦ ap (λ y. cond (not y) (t ∷ besides s ts) (besides s ts)) h.0 ∙ ap (λ z. t ∷ z) (besides-away s ts (omega (arith, e)))
 ]
 
--- a slot that stands in a list once
+-- a slot that is in a list once
 pub besides-behind : (s : ℕ) (front rest : List ℕ) → ((t : ℕ) → times t (front ++ s ∷ rest) ≤ 1) → besides s (front ++ s ∷ rest) ≡ front ++ rest
 besides-behind s [] rest once = elim (eqb_tells s s) [
   | inl h ↦ ap (λ y. cond (not y) (s ∷ besides s rest) (besides s rest)) h.0 ∙ besides-away s rest (omega (arith, once s, one_if-same s))
@@ -56,7 +56,7 @@ total-skipped m css i b s front rest lt split e =
     let is = length-append front (b ∷ rest) in
     (omega (arith, more, e, long, was, is), omega (arith, more, e, long, was, is))
 
--- the slot behind another one of a chain
+-- the slot after another one of a chain
 module _ (x : Inside) (law : IsArena (opened x)) (c b s : ℕ) (front rest : List ℕ) (split : chain_at (opened x) c ≡ front ++ b ∷ s ∷ rest) where
   pub once : (t : ℕ) → times t (front ++ b ∷ s ∷ rest) ≤ 1
   once t = subst (λ z. times t z ≤ 1) split (omega (arith, law.alone t, times_in-at t x.chained.0 c))

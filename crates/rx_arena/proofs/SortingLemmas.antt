@@ -51,7 +51,7 @@ module _ (init : ArenaState) (c : ℕ) (self : ArenaState) (inv : Sorting init c
         spare = (λ i. (ap (λ (v : ArenaState). v.spare) rest) i + length (sym drops i)) ∙ inv.spare;
       })
 
-  -- a slot that is not marked is given back
+  -- a slot that is not marked is freed
   pub sorted_unmarked : (two : ArenaState) → marked_at one s ≡ false → two ≡ record one { cells = put one.cells s None; spare = one.spare + 1 }
       → Sorting init c two
   sorted_unmarked two m e =

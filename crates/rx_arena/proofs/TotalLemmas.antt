@@ -26,7 +26,7 @@ total-take zero css none = sym (total_nil css (λ c. none c (omega arith)))
 total-take (suc n) [] none = refl
 total-take (suc n) (c ∷ cs) none = let rest = total-take n cs (λ k le. none (suc k) (omega (arith, le))) in omega (arith, rest)
 
--- the one chain goes behind n empty ones
+-- the one chain goes after n empty ones
 pub total-behind : (m n : ℕ) (css : List (List ℕ)) → length css ≡ 1 → m ≡ total css → m ≡ total (set (replicate (n + 1) []) n (get_or css 0 []))
 total-behind m n [] one e = absurd (omega (arith, one))
 total-behind m n (c ∷ []) one e =
@@ -101,11 +101,11 @@ sum_full f (suc n) one full s lt =
     ]
 
 module _ (css : List (List ℕ)) (n : ℕ) (alone : (s : ℕ) → times_in s css ≤ 1) (below : (s : ℕ) → 0 < times_in s css → s < n) where
-  -- slots that stand in one place each are no more than the numbers below n
+  -- slots that are in one place each are no more than the numbers below n
   pub total_few : total css ≤ n
   total_few = omega (arith, total_sum css n below, sum_few (λ s. times_in s css) n alone)
 
-  -- and where they are as many, each stands in a chain
+  -- and if they are as many, each is in a chain
   pub total_full : total css ≡ n → (s : ℕ) → s < n → times_in s css ≡ 1
   total_full e = sum_full (λ s. times_in s css) n alone (sym (total_sum css n below) ∙ e)
 
@@ -118,7 +118,7 @@ less_or_not (suc t) (suc n) = elim (less_or_not t n) [ inl l ↦ inl (omega (ari
 pub total_small : (a : ArenaState) → IsArena a → total a.chains ≤ 2 ^ 30
 total_small a law = let few = total_few a.chains a.cap law.alone (λ s lt. law.below s (law.chained_taken s lt)) in omega (arith, few, law.small_cap)
 
--- where the chains hold as many slots as there are below n, each of these stands in one
+-- where the chains hold as many slots as there are below n, each of these is in one
 pub all_inside : (a : ArenaState) → IsArena a → (n : ℕ) → ((s : ℕ) → n ≤ s → taken_at a s ≡ None) → total a.chains ≡ n → (s : ℕ) → s < n
     → times_in s a.chains ≡ 1
 all_inside a law n past e s lt = total_full a.chains n law.alone (λ t here. below t here) e s lt where

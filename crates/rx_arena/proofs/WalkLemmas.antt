@@ -89,7 +89,7 @@ module _ (ss : List ℕ) (next : Option Slot) (w : Walk ss next) (s : Slot) (is 
       let then = ap length (left_of-walk ss far (walk_on far found) once) in
       omega (arith, now, then)
 
--- a chain's slots stand in it once, and in the chains
+-- a chain's slots are in it once, and in the chains
 pub chain_once : (a : ArenaState) → IsArena a → (c t : ℕ) → times t (chain_at a c) ≤ 1
 chain_once a law c t = omega (arith, law.alone t, times_in-at t a.chains c)
 

@@ -1,4 +1,5 @@
-//! The arena: slots to take and give back, the chains of a table, and the gray list of a marking.
+//! The arena: slots that are taken and freed, the chains of a hash table, and the gray list of a
+//! collection.
 
 mod dealing;
 mod parting;
@@ -52,7 +53,7 @@ impl Model for Arena {
     ghost invariant = { λ a. IsArena (state_of a.pool a.chained.0 a.grayed.0) };
 }
 
-/// The chain that a hash names: its low bits, where the number of chains is a power of two.
+/// Returns the chain of a hash. If the number of chains is a power of two, these are its low bits.
 #[inline(always)]
 fn home(hash: u64, chains: u32) -> u32
     requires { 0 < chains }
@@ -65,7 +66,7 @@ fn home(hash: u64, chains: u32) -> u32
     }
 }
 
-/// The slot of a number.
+/// Returns the slot with this number.
 fn slot_of(number: Option<u32>) -> Option<Slot>
     ensures { MatchOption number (result ≡ None)
         (λ n. IfSome result (λ s. s.0 ≡ n) × IsSome result) }
@@ -74,7 +75,8 @@ fn slot_of(number: Option<u32>) -> Option<Slot>
 }
 
 impl Arena {
-    /// An arena of empty chains, in which at most `cap` slots may be taken.
+    /// Returns an arena with empty chains, in which at most `cap` slots can be taken. The only
+    /// error is `Memory`.
     pub fn new(alloc: Global, cap: u32, chains: u32) -> Result<Arena, ArenaFault>
         requires cap { (1 ≤ cap) × (cap ≤ 2 ^ 30) }
         requires chains { (1 ≤ chains) × (chains ≤ 2 ^ 30) }
@@ -93,7 +95,7 @@ impl Arena {
         })
     }
 
-    /// How many slots are taken.
+    /// Returns the number of slots that are taken.
     pub fn cells(&self) -> u32
         ensures count { result ≡ taken_count self.now }
         ensures law { IsArena self.now }
@@ -101,7 +103,7 @@ impl Arena {
         self.pool.taken()
     }
 
-    /// How many slots can be taken with no more memory.
+    /// Returns the number of slots that can be taken without new memory.
     pub fn spare(&self) -> u32
         ensures value { result ≡ self.now.spare }
         ensures law { IsArena self.now }
@@ -109,7 +111,7 @@ impl Arena {
         self.pool.spare()
     }
 
-    /// How many chains there are.
+    /// Returns the number of chains.
     pub fn chains(&self) -> u32
         ensures count { result ≡ length self.now.chains }
         ensures law { IsArena self.now }
@@ -117,7 +119,7 @@ impl Arena {
         self.heads.len()
     }
 
-    /// The chain that a hash names.
+    /// Returns the chain of a hash.
     #[inline(always)]
     pub fn home(&self, hash: u64) -> u32
         requires some { 0 < length self.now.chains }
@@ -127,7 +129,10 @@ impl Arena {
         home(hash, self.chains())
     }
 
-    /// Takes a slot for this body: unmarked, protected by no root, in no chain.
+    /// Takes a slot for this body. It is not marked, not protected, and in no chain. Fails only if
+    /// no slot is spare: with `Full` if as many slots are taken as the limit allows, otherwise with
+    /// `Memory`. The arena is unchanged after an error. Takes constant time, except when a block is
+    /// added.
     pub fn take(&mut self, body: CellBody) -> Result<Slot, ArenaFault>
         ensures free { IfOk result (λ s. taken_at self.old s.0 ≡ None) }
         ensures below { IfOk result (λ s. s.0 < self.old.cap) }
@@ -146,7 +151,7 @@ impl Arena {
         self.take_with(body, word(body))
     }
 
-    /// The same, where the word of the body is known.
+    /// Takes a slot like `take`, for a body whose word is known.
     #[inline(always)]
     pub fn take_with(&mut self, body: CellBody, word: u64) -> Result<Slot, ArenaFault>
         requires { word ≡ word_of body }
@@ -170,7 +175,8 @@ impl Arena {
         }
     }
 
-    /// Gives back a slot that nothing needs any more.
+    /// Frees a slot. It is taken, not marked, not protected, and in no chain and not in the gray
+    /// list.
     pub fn give_back(&mut self, slot: Slot)
         requires taken { IsTaken self.old slot.0 }
         requires loose { IsLoose self.old slot.0 }
@@ -184,14 +190,14 @@ impl Arena {
         self.pool.give_back(slot.0)
     }
 
-    /// Whether the slot is taken and not marked.
+    /// Returns whether the slot is taken and not marked.
     pub fn holds_unmarked(&self, slot: Slot) -> bool
         ensures { result ≡ is_unmarked (taken_at self.now slot.0) }
     {
         self.pool.holds_unmarked(slot.0)
     }
 
-    /// How often the cell is protected.
+    /// Returns the number of protections of a cell.
     pub fn roots(&self, slot: Slot) -> u16
         requires { IsTaken self.now slot.0 }
         ensures { result ≡ roots_at self.now slot.0 }
@@ -199,14 +205,14 @@ impl Arena {
         self.pool.roots(slot.0)
     }
 
-    /// Whether the slot is taken and protected, as is told without its cell.
+    /// Returns whether the slot is taken and protected. The cell is not read.
     pub fn is_protected(&self, slot: Slot) -> bool
         ensures { IsTrue result ↔ 0 < roots_at self.now slot.0 }
     {
         self.pool.is_protected(slot.0)
     }
 
-    /// Replaces how often the cell is protected.
+    /// Replaces the number of protections of a cell.
     pub fn set_roots(&mut self, slot: Slot, count: u16)
         requires { IsTaken self.old slot.0 }
         ensures after { self.new ≡ record self.old
@@ -216,7 +222,9 @@ impl Arena {
         self.pool.set_roots(slot.0, count)
     }
 
-    /// Makes sure of memory for `count` more slots.
+    /// Ensures that `count` more slots can be taken without new memory. Returns `Full` if that
+    /// would pass the limit, `Memory` if an allocation failed. Blocks that were added before the
+    /// error stay.
     pub fn reserve(&mut self, count: u32) -> Result<(), ArenaFault>
         ensures rest { self.new ≡ record self.old { spare = self.new.spare } }
         ensures grown { self.old.spare ≤ self.new.spare }
@@ -230,7 +238,7 @@ impl Arena {
         self.pool.reserve(count)
     }
 
-    /// The first slot of a chain.
+    /// Returns the first slot of a chain, or `None` if it is empty.
     pub fn chain_first(&self, chain: u32) -> Option<Slot>
         requires { chain < length self.now.chains }
         ensures first { IsFirst result (chain_at self.now chain) }
@@ -239,7 +247,7 @@ impl Arena {
         slot_of(self.heads.get(chain))
     }
 
-    /// The slot after this one in its chain.
+    /// Returns the slot after this one in its chain, or `None` at the end.
     pub fn chain_next(&self, slot: Slot) -> Option<Slot>
         requires { InChain self.now slot.0 }
         ensures next { (c : ℕ) (before after : List ℕ)
@@ -249,7 +257,7 @@ impl Arena {
         slot_of(self.pool.chain_next(slot.0))
     }
 
-    /// Puts a slot in front of a chain.
+    /// Puts a slot that is in no chain at the front of a chain.
     #[inline(always)]
     pub fn chain_push(&mut self, chain: u32, slot: Slot)
         requires chain { chain < length self.old.chains }
@@ -264,7 +272,7 @@ impl Arena {
         self.linked += 1;
     }
 
-    /// Takes the first slot out of a chain.
+    /// Removes and returns the first slot of a chain.
     fn chain_pop(&mut self, chain: u32) -> Option<Slot>
         requires { chain < length self.old.chains }
         ensures first { MatchOption result (chain_at self.old chain ≡ [])
@@ -287,7 +295,7 @@ impl Arena {
         }
     }
 
-    /// Whether the cell is marked.
+    /// Returns whether the cell is marked.
     pub fn marked(&self, slot: Slot) -> bool
         requires { IsTaken self.now slot.0 }
         ensures { result ≡ marked_at self.now slot.0 }
@@ -295,7 +303,7 @@ impl Arena {
         self.pool.marked(slot.0)
     }
 
-    /// Marks the cell, and puts it in front of the gray list.
+    /// Marks the cell, which was not marked, and puts it at the front of the gray list.
     pub fn gray_push(&mut self, slot: Slot)
         requires taken { IsTaken self.old slot.0 }
         requires unmarked { marked_at self.old slot.0 ≡ false }
@@ -311,7 +319,7 @@ impl Arena {
         self.gray_first = Some(slot.0);
     }
 
-    /// Puts a marked slot in front of the gray list.
+    /// Puts a marked slot at the front of the gray list.
     fn gray_return(&mut self, slot: Slot)
         requires marked { IsMarked self.old slot.0 }
         requires not_gray { times slot.0 self.old.gray ≡ 0 }
@@ -322,7 +330,7 @@ impl Arena {
         self.gray_first = Some(slot.0);
     }
 
-    /// Takes the first slot out of the gray list. It stays marked.
+    /// Removes and returns the first slot of the gray list. It stays marked.
     pub fn gray_pop(&mut self) -> Option<Slot>
         ensures first { MatchOption result (self.old.gray ≡ [])
             (λ s. self.old.gray ≡ s.0 ∷ self.new.gray) }
@@ -341,7 +349,9 @@ impl Arena {
         }
     }
 
-    /// Marks the cell, and leaves it out of the gray list.
+    /// Marks the cell without putting it in the gray list: a collection continues with one slot
+    /// that a cell names (of a list, the tail), so that it leaves the gray list alone along a chain
+    /// of cells.
     pub fn mark(&mut self, slot: Slot)
         requires { IsTaken self.old slot.0 }
         ensures after { self.new ≡ record self.old
@@ -362,8 +372,8 @@ impl Arena {
         self.pool.set_mark(slot.0, false)
     }
 
-    /// Forgets all marks, where each taken slot has one: what said that it is marked says now that
-    /// it is not.
+    /// Clears all marks at once. Each taken slot is marked. The mark that meant "marked" means "not
+    /// marked" afterwards, so no cell is touched.
     pub fn turn_marks(&mut self)
         requires marked { (s : ℕ) → IsTaken self.old s → IsMarked self.old s }
         requires no_gray { self.old.gray ≡ [] }
@@ -374,7 +384,7 @@ impl Arena {
         self.pool.turn()
     }
 
-    /// How many slots were ever taken: each taken slot's number is below.
+    /// Returns the number of slots that were ever taken. The number of each taken slot is below it.
     pub fn slots(&self) -> u32
         ensures count { result ≡ length self.now.cells }
         ensures past { (s : ℕ) → result ≤ s → taken_at self.now s ≡ None }

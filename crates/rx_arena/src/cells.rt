@@ -1,5 +1,5 @@
-//! Cells in memory. Only this file and `room.rt` hold pointers. Each function here works on the
-//! cell at one place, and one that follows its link reads the number in the cell behind it too.
+//! Cells in memory. Only this file and `room.rt` have pointers. Each function works on the cell at
+//! one place; one that follows its link also reads the number in the cell that it leads to.
 ghost use Rattle.std.specs.Prelude.{◌≡◌, ℕ, ◌*◌, ◌<◌, List, [], ◌∷◌, ◌++◌, length, replicate};
 ghost use Rattle.std.specs.Prelude.{slice_set};
 ghost use Rattle.std.specs.Prelude.{Option, Some, None, IfSome};
@@ -13,8 +13,8 @@ use crate::{CellBody, Slot};
 use std::marker::{Model, PhantomData};
 use std::mem::size_of;
 
-/// A cell, with a pointer to the next one of its chain, or to itself at the end. The crate's root
-/// says how it lies.
+/// A cell, with a pointer to the next one of its chain, or to itself at the end. The layout is
+/// described in the crate's root.
 pub struct Cell {
     chain: *mut Cell,
     number: u32,
@@ -28,28 +28,28 @@ pub struct Cell {
 
 const _: () = prove!(size_of::<Cell>() == 48);
 
-/// Where a block begins. It owns nothing.
+/// The start of a block. It owns nothing.
 #[derive(Clone, Copy)]
 pub struct Base {
     at: *mut Cell,
     ghost real: { InBlock at } by { InBlock-prop at },
 }
 
-/// A slot and where it lies. It owns nothing.
+/// A slot and its address. It owns nothing.
 #[derive(Clone, Copy)]
 pub struct Place {
     pub(crate) slot: u32,
     pub(crate) at: *mut Cell,
 }
 
-/// What a cell's link is to become: the next slot, if there is one, and the pointer for it.
+/// The new link of a cell: the next slot, if there is one, and the pointer for it.
 #[derive(Clone, Copy)]
 pub struct Target {
     pub(crate) slot: Option<u32>,
     pub(crate) to: *mut Cell,
 }
 
-/// A slot, and where the link of its cell leads.
+/// A slot, and the target of its cell's link.
 #[derive(Clone, Copy)]
 pub struct Lead {
     slot: u32,
@@ -74,7 +74,7 @@ impl Model for Cells {
 impl Cell {
     ghost use Rattle.rx_arena.specs.Inner.Ownership.{body_of};
 
-    /// The body, whose fields lie apart.
+    /// Returns the body, whose fields are apart from each other.
     pub(crate) fn body(&self) -> CellBody
         ensures { result ≡ body_of self.now }
     {
@@ -92,7 +92,7 @@ impl Cells {
     ghost use Rattle.rx_arena.specs.Inner.Ownership.{cell_of, link_to};
     ghost use Rattle.rx_arena.specs.Inner.Held.{IsPlace, IsHeld, IsLead};
 
-    /// An owner of no cells.
+    /// Returns an owner without cells.
     pub(crate) fn new() -> Cells
         ensures { (result.blocks ≡ []) × (result.slots ≡ []) }
     {
@@ -111,7 +111,7 @@ impl Cells {
         Base { at }
     }
 
-    /// Empties all slots, and hands out the room of the last block.
+    /// Empties all slots, and returns the memory of the last block.
     pub(crate) fn remove(&mut self, base: Base) -> Room
         requires { (length self.old.slots ≡ 1024 * length self.old.blocks)
             × IsLast self.old.blocks base.at }
@@ -122,14 +122,14 @@ impl Cells {
         Room { at: base.at }
     }
 
-    /// Ends an owner that has given back all blocks.
+    /// Ends an owner that has no blocks any more.
     pub(crate) fn end(self)
         requires { self.blocks ≡ [] }
     {
         let Cells { mark: _ } = self;
     }
 
-    /// Writes a new cell into a slot, over what lies there.
+    /// Writes a new cell into a slot, over its contents.
     #[inline(always)]
     pub(crate) fn fill(&mut self, at: Place, body: CellBody)
         requires { IsPlace self.old.blocks at × (at.slot < length self.old.slots) }
@@ -150,7 +150,7 @@ impl Cells {
         }
     }
 
-    /// Lends the cell, whose link only this file reads.
+    /// Returns a reference to the cell. Only this file reads its link.
     pub(crate) fn get(&self, at: Place) -> &Cell
         requires { IsPlace self.now.blocks at × IsHeld self.now.slots at.slot }
         ensures { IfSome (node_at self.now.slots at.slot)
@@ -159,7 +159,7 @@ impl Cells {
         unsafe { &*at.at }
     }
 
-    /// Writes the root count.
+    /// Writes the number of protections.
     pub(crate) fn set_roots(&mut self, at: Place, count: u16)
         requires { IsPlace self.old.blocks at × IsHeld self.old.slots at.slot }
         ensures blocks { self.new.blocks ≡ self.old.blocks }
@@ -180,7 +180,7 @@ impl Cells {
         unsafe { (*at.at).chain = next.to }
     }
 
-    /// The number in the cell that a link leads to.
+    /// Returns the number in the cell that a link leads to.
     fn number(&self, lead: Lead) -> u32
         requires { IsLead self.now.blocks self.now.slots lead }
         ensures { IfSome (node_at self.now.slots lead.slot)
@@ -189,7 +189,8 @@ impl Cells {
         unsafe { (*lead.to).number }
     }
 
-    /// The number of the cell that the link leads to: the cell's own, where the chain ends.
+    /// Returns the number of the cell that the link leads to: the cell's own at the end of the
+    /// chain.
     #[inline(always)]
     pub(crate) fn chain_number(&self, at: Place) -> u32
         requires { IsPlace self.now.blocks at
@@ -208,7 +209,7 @@ impl Base {
     ghost use Rattle.std.specs.Prelude.{◌*◌};
     ghost use denote.RawPtr.{◌+ₚ◌};
 
-    /// Where the cell with this index in the block lies.
+    /// Returns the address of the cell with this index in the block.
     pub(crate) fn cell(self, index: usize) -> *mut Cell
         requires { index < 1024 }
         ensures { result ≡ self.at +ₚ (index * 48) }

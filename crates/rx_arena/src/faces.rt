@@ -1,24 +1,25 @@
-//! Words that say what cells say, eight bytes each, where that fits: a kind below 4 in the top 2
-//! bits, the second word of the body below 2^30 in the next 30, the first one below 2^32 in the
-//! last 32, and no annotations. One word says to ask the cell.
+//! Words of eight bytes that have the contents of cells: a kind below 4 in the top 2 bits, the
+//! second word of the body below 2^30 in the next 30, the first one below 2^32 in the last 32.
+//! Contents that do not fit, or with annotations, have one special word, which means that the cell
+//! has to be read.
 ghost use Rattle.std.specs.Prelude.{◌≡◌, ◌≢◌, ◌<◌, ℕ, None, IfSome};
 ghost use Rattle.rx_arena.specs.Faces.{face_of, fits, word_of, ask};
 
 use crate::{CellBody, Face, Slot};
 
-/// The word that says to ask the cell.
+/// The word that means that the cell has to be read.
 pub const ASK: u64 = u64::MAX;
 
-/// How many kinds a word can say.
+/// The number of kinds that a word can have.
 const KINDS: u64 = 4;
 
-/// The second word of a body is below this number, if a word says it.
+/// The second word of a body has to be below this number.
 const SECONDS: u64 = 1 << 30;
 
-/// The first word of a body is below this number, if a word says it.
+/// The first word of a body has to be below this number.
 const FIRSTS: u64 = 1 << 32;
 
-/// Whether a word can say this.
+/// Returns whether these contents fit into a word.
 #[inline(always)]
 fn is_small(kind: u8, a: u64, b: u64, anns: Option<Slot>) -> bool
     ensures { result ≡ fits kind a b anns }
@@ -29,7 +30,7 @@ fn is_small(kind: u8, a: u64, b: u64, anns: Option<Slot>) -> bool
     }
 }
 
-/// The word of a body.
+/// Returns the word of a body.
 #[inline(always)]
 pub fn word(body: CellBody) -> u64
     ensures { result ≡ word_of body }
@@ -41,7 +42,7 @@ pub fn word(body: CellBody) -> u64
     }
 }
 
-/// The word of a body without annotations, of one of these kinds and with a small second word.
+/// Returns the word of a body without annotations, with a kind below 4 and a small second word.
 #[inline(always)]
 pub fn bare_word(kind: u8, a: u64, b: u64) -> u64
     requires kind { kind < 4 }
@@ -56,7 +57,7 @@ pub fn bare_word(kind: u8, a: u64, b: u64) -> u64
     }
 }
 
-/// The kind of the body that a word says.
+/// Returns the kind of the body in a word.
 #[inline(always)]
 fn kind(word: u64) -> u8
     requires { word ≢ ask }
@@ -65,7 +66,7 @@ fn kind(word: u64) -> u8
     (word / FIRSTS / SECONDS) as u8
 }
 
-/// The first word of the body that a word says.
+/// Returns the first word of the body in a word.
 #[inline(always)]
 pub(crate) fn first(word: u64) -> u64
     requires { word ≢ ask }
@@ -74,7 +75,7 @@ pub(crate) fn first(word: u64) -> u64
     word % FIRSTS
 }
 
-/// The second word of the body that a word says.
+/// Returns the second word of the body in a word.
 #[inline(always)]
 pub(crate) fn second(word: u64) -> u64
     requires { word ≢ ask }
@@ -83,7 +84,7 @@ pub(crate) fn second(word: u64) -> u64
     word / FIRSTS % SECONDS
 }
 
-/// What a word says.
+/// Returns the contents in a word, or `None` if the cell has to be read.
 #[inline(always)]
 pub fn said(word: u64) -> Option<Face>
     ensures some { (b : CellBody) → word ≡ word_of b → IfSome result (λ f. f ≡ face_of b) }

@@ -1,30 +1,33 @@
-//! The cells of terms, in raw blocks of 1,024, in chains by raw pointers and known by the numbers
-//! of their slots.
+//! The cells of terms: raw blocks of 1,024 cells, linked in chains by raw pointers, and identified
+//! by the numbers of their slots.
 //!
-//! A cell takes 48 bytes. Its fields lie in the order of the source, so that what a walk along a
-//! chain reads stands in the first 16:
+//! An [`arena::Arena`] takes and frees slots, keeps the chains of a hash table, and has the marks
+//! and the gray list of a garbage collection. No other crate of the store uses raw pointers.
 //!
-//! | Bytes | Field | What it is |
+//! A cell takes 48 bytes. Its fields are in the order of the source, so that a walk along a chain
+//! reads only the first 16:
+//!
+//! | Bytes | Field | Meaning |
 //! |---|---|---|
 //! | 0 to 7 | `chain` | a pointer to the next cell of the chain, or to the cell itself at the end |
 //! | 8 to 11 | `number` | the cell's own slot |
-//! | 12 to 13 | `roots` | how often it is protected |
+//! | 12 to 13 | `roots` | the number of protections |
 //! | 14 | `kind` | the body's kind |
 //! | 15 | | not used |
-//! | 16 to 23 | `hash` | the body's hash |
+//! | 16 to 23 | `hash` | the hash of the body |
 //! | 24 to 39 | `a`, `b` | two words of the body |
 //! | 40 to 47 | `anns` | the slot of the annotations, if there are any |
 //!
-//! Beside the blocks there are two bytes, a word and a slot's number for each slot. One byte is its
-//! mark: 0 or 1 while the slot is taken, where one of them says that it is marked, and 2 once it is
-//! given back. The other says whether it is protected. The word says what the cell says but for the
-//! hash, where that fits, there are no annotations and the cell was not given back. The number is
-//! the next slot of the list that the slot stands in: the gray list while it is taken, the list of
-//! free slots once it is given back. So whether a slot is taken, marked or protected, what comes
-//! next in its list, and mostly what it holds, is read without its cell.
-//!
-//! No pointer is compared, tested against null or turned into a number: a link is known by the
+//! No pointer is compared, tested against null or turned into a number: a link is identified by the
 //! `number` in the cell that it leads to, and a cell's own number means the end.
+//!
+//! ```text
+//! let slot = arena.take(body)?;
+//! arena.chain_push(arena.home(body.hash), slot);
+//! ```
+//!
+//! **Cost.** Constant time, except that functions on a whole chain, `reserve` and `rehash_into` are
+//! linear in the number of slots that they visit.
 #![tactic(auto)]
 
 pub mod arena;
@@ -45,7 +48,8 @@ pub use store::Store;
 #[derive(Clone, Copy, Debug, PartialEq, Eq)]
 pub struct Slot(pub u32);
 
-/// What a cell says: its kind, two words, the slot of its annotations, and a hash of all of these.
+/// The contents of a cell: its kind, two words, the slot of its annotations, and a hash of all
+/// these.
 #[derive(Clone, Copy, Debug, PartialEq, Eq)]
 pub struct CellBody {
     pub kind: u8,
@@ -55,7 +59,7 @@ pub struct CellBody {
     pub hash: u64,
 }
 
-/// What a cell says, but for the hash.
+/// The contents of a cell without the hash.
 #[derive(Clone, Copy, Debug, PartialEq, Eq)]
 pub struct Face {
     pub kind: u8,

@@ -1,4 +1,8 @@
-//! The slots that are taken, and a list of those that were given back.
+//! The slots that are taken, and the list of those that were freed.
+//!
+//! Marks are bytes next to each other and not in cells, so marking sees whether a subterm is
+//! marked, and sweeping whether a slot stays, without its cell of 48 bytes. Marking begins with the
+//! protected slots, for which a second byte suffices.
 ghost use Rattle.std.specs.Prelude.{◌≡◌, ◌+◌, ◌-◌, ◌<◌, ◌≤◌, ◌^◌, ◌∷◌, [], Option, Some, None, Ok};
 ghost use Rattle.std.specs.Prelude.{Err, MatchOption, MatchResult, IfSome, IfOk, IfErr, OnOk};
 ghost use Rattle.std.specs.Prelude.{◌≢◌, IsTrue, OnErr, OnSome, IfNone, get_or, length, min, ℕ};
@@ -18,23 +22,24 @@ use crate::slots::{GIVEN_BACK, Slots};
 use std::alloc::Global;
 use std::marker::Model;
 
-/// How many slots a block has.
+/// The number of slots of a block.
 const BLOCK: u32 = 1024;
 
-/// One mark of taken cells. Whether it says that a cell is marked changes with each turn.
+/// One mark of taken cells. Whether it means "marked" changes with each turn: after a collection
+/// marked cells keep their byte, which then means "not marked", so no pass clears marks.
 const LOW: u8 = 0;
 
 /// The other mark of taken cells.
 const HIGH: u8 = 1;
 
-/// The mark of a taken cell, by whether the marks are turned and whether the cell is marked.
+/// Returns the mark of a taken cell, from the state of the turn and whether the cell is marked.
 fn mark_of(turned: bool, marked: bool) -> u8
     ensures { result ≡ spec.mark_of turned marked }
 {
     if turned == marked { LOW } else { HIGH }
 }
 
-/// The slots that are taken. A slot that is given back is the next to be taken.
+/// The slots that are taken. The slot that was freed last is the next one to be taken.
 #[derive(Drop)]
 pub(crate) struct Pool {
     store: Slots,
@@ -66,7 +71,7 @@ impl Model for Pool {
 }
 
 impl Pool {
-    /// A pool without slots, for at most `cap`.
+    /// Returns a pool without slots, for at most `cap`.
     pub(crate) fn new(alloc: Global, cap: u32) -> Pool
         requires { cap ≤ 2 ^ 30 }
         ensures { result ≡ record {
@@ -89,7 +94,7 @@ impl Pool {
         }
     }
 
-    /// How many slots are taken.
+    /// Returns the number of slots that are taken.
     pub(crate) fn taken(&self) -> u32
         ensures value { result ≡ filled self.now.cells }
         ensures fits { result ≤ self.now.cap }
@@ -97,7 +102,7 @@ impl Pool {
         self.taken
     }
 
-    /// How many slots can be taken without memory.
+    /// Returns the number of slots that can be taken without new memory.
     pub(crate) fn spare(&self) -> u32
         ensures value { result ≡ spare_of self.now }
         ensures fits { result + filled self.now.cells ≤ self.now.cap }
@@ -105,7 +110,7 @@ impl Pool {
         self.cap.min(self.room) - self.taken
     }
 
-    /// Takes the slot that was given back last.
+    /// Takes the slot that was freed last.
     #[inline(always)]
     fn reuse(&mut self, body: CellBody, word: u64) -> Option<u32>
         requires { word ≡ word_of body }
@@ -172,7 +177,7 @@ impl Pool {
         }
     }
 
-    /// Gives a slot back.
+    /// Frees a slot.
     pub(crate) fn give_back(&mut self, slot: u32)
         requires { IsHeld self.old.cells slot }
         ensures after { self.new ≡ record self.old
@@ -184,21 +189,21 @@ impl Pool {
         self.taken -= 1;
     }
 
-    /// Whether the slot is taken and not marked.
+    /// Returns whether the slot is taken and not marked.
     pub(crate) fn holds_unmarked(&self, slot: u32) -> bool
         ensures { result ≡ is_unmarked_node self.now.turned (get_or self.now.cells slot None) }
     {
         slot < self.fresh && self.store.mark(slot) == mark_of(self.turned, false)
     }
 
-    /// Whether the slot is taken and protected.
+    /// Returns whether the slot is taken and protected.
     pub(crate) fn is_protected(&self, slot: u32) -> bool
         ensures { result ≡ is_protected_node (get_or self.now.cells slot None) }
     {
         slot < self.fresh && self.store.is_protected(slot) && self.store.mark(slot) != GIVEN_BACK
     }
 
-    /// How many slots were ever taken.
+    /// Returns the number of slots that were ever taken.
     pub(crate) fn slots(&self) -> u32
         ensures count { result ≡ length self.now.cells }
         ensures past { (s : ℕ) → result ≤ s → get_or self.now.cells s None ≡ None }
@@ -206,7 +211,7 @@ impl Pool {
         self.fresh
     }
 
-    /// What a taken slot holds.
+    /// Returns the contents of a taken slot.
     pub(crate) fn body(&self, slot: u32) -> CellBody
         requires { IsHeld self.now.cells slot }
         ensures { IfSome (get_or self.now.cells slot None) (λ n. result ≡ n.body) }
@@ -214,7 +219,7 @@ impl Pool {
         self.store.body(slot)
     }
 
-    /// The word of what a taken slot holds.
+    /// Returns the word of a taken slot.
     #[inline(always)]
     pub(crate) fn word(&self, slot: u32) -> u64
         requires { IsHeld self.now.cells slot }
@@ -223,7 +228,7 @@ impl Pool {
         self.store.word(slot)
     }
 
-    /// Whether a slot is taken, and its word is this one.
+    /// Returns true only if a slot is taken and its word is this one.
     #[inline(always)]
     pub(crate) fn holds_word(&self, slot: u32, word: u64) -> bool
         requires { word ≢ ask }
@@ -233,7 +238,7 @@ impl Pool {
         slot < self.room && self.store.word(slot) == word
     }
 
-    /// How often a taken slot is rooted.
+    /// Returns the number of protections of a taken slot.
     pub(crate) fn roots(&self, slot: u32) -> u16
         requires { IsHeld self.now.cells slot }
         ensures { IfSome (get_or self.now.cells slot None) (λ n. result ≡ n.roots) }
@@ -241,7 +246,7 @@ impl Pool {
         self.store.roots(slot)
     }
 
-    /// Whether a taken slot is marked.
+    /// Returns whether a taken slot is marked.
     pub(crate) fn marked(&self, slot: u32) -> bool
         requires { IsHeld self.now.cells slot }
         ensures { IfSome (get_or self.now.cells slot None)
@@ -250,7 +255,7 @@ impl Pool {
         self.store.mark(slot) != mark_of(self.turned, false)
     }
 
-    /// The next slot of a taken slot's chain.
+    /// Returns the next slot of a taken slot's chain.
     #[inline(always)]
     pub(crate) fn chain_next(&self, slot: u32) -> Option<u32>
         requires { IsHeld self.now.cells slot × IfSome (get_or self.now.cells slot None)
@@ -260,7 +265,7 @@ impl Pool {
         self.store.chain_next(slot)
     }
 
-    /// The next slot of a list of taken slots.
+    /// Returns the next slot of a list of taken slots.
     #[inline(always)]
     pub(crate) fn next(&self, slot: u32) -> Option<u32>
         requires { IsHeld self.now.cells slot }
@@ -269,7 +274,7 @@ impl Pool {
         self.store.next(slot)
     }
 
-    /// Sets how often a taken slot is rooted.
+    /// Sets the number of protections of a taken slot.
     pub(crate) fn set_roots(&mut self, slot: u32, count: u16)
         requires { IsHeld self.old.cells slot }
         ensures { self.new ≡ record self.old
@@ -278,7 +283,7 @@ impl Pool {
         self.store.set_roots(slot, count)
     }
 
-    /// Marks a taken slot, or takes the mark off.
+    /// Marks a taken slot, or clears its mark.
     pub(crate) fn set_mark(&mut self, slot: u32, marked: bool)
         requires { IsHeld self.old.cells slot }
         ensures { self.new ≡ record self.old {
@@ -289,7 +294,7 @@ impl Pool {
         self.store.set_mark(slot, mark_of(self.turned, marked))
     }
 
-    /// Changes which mark says that a cell is marked.
+    /// Exchanges the meanings of the two marks.
     pub(crate) fn turn(&mut self)
         ensures after { self.new ≡ record self.old { turned = not self.old.turned } }
         ensures two { (s : ℕ) (n : Node) → get_or self.old.cells s None ≡ Some n → n.mark ≤ 1 }
@@ -319,7 +324,8 @@ impl Pool {
         self.store.set_next(slot, next)
     }
 
-    /// Takes a slot, one that was given back where there is one, for a body whose word is known.
+    /// Takes a slot for a body whose word is known; a freed slot, if there is one. Fails like
+    /// `Arena::take`.
     #[inline(always)]
     pub(crate) fn take(&mut self, body: CellBody, word: u64) -> Result<u32, ArenaFault>
         requires { word ≡ word_of body }
@@ -348,7 +354,7 @@ impl Pool {
         Ok(self.extend(body, word))
     }
 
-    /// Adds blocks until `count` slots can be taken.
+    /// Adds blocks until `count` slots can be taken. Fails like `Arena::reserve`.
     pub(crate) fn reserve(&mut self, count: u32) -> Result<(), ArenaFault>
         ensures same { self.new ≡ record self.old { room = self.new.room } }
         ensures grown { self.old.room ≤ self.new.room }

@@ -1,4 +1,6 @@
-//! Tables of slots, four bytes an entry.
+//! Tables of slots, four bytes for each entry. One table has the links of both the gray list and
+//! the list of free slots: the former has taken slots only, the latter freed ones only, so an entry
+//! that is written for one list leaves the other alone.
 ghost use Rattle.std.specs.Prelude.{◌≡◌, ◌<◌, ◌++◌, [], None, IfSome, IfOk, IfErr, OnOk, OnErr};
 ghost use Rattle.std.specs.Prelude.{get_or, length, slice_set, take, replicate};
 
@@ -7,10 +9,10 @@ use crate::room::BLOCK;
 use std::alloc::{AllocError, Global};
 use std::marker::Model;
 
-/// The number that stands for no slot.
+/// The number that means "no slot".
 const NO_SLOT: u32 = u32::MAX;
 
-/// A slot or none at each entry: the first slot of each chain, or the next slot of each slot.
+/// A slot or none for each entry: the first slot of each chain, or the next slot of each slot.
 #[derive(Drop)]
 pub(crate) struct SlotTable {
     numbers: Vec<u32>,
@@ -26,7 +28,7 @@ impl Model for SlotTable {
 }
 
 impl SlotTable {
-    /// A table without entries.
+    /// Returns a table without entries.
     pub(crate) fn empty(alloc: Global) -> SlotTable
         ensures { result ≡ [] }
     {
@@ -35,7 +37,7 @@ impl SlotTable {
         }
     }
 
-    /// A table of so many entries, with no slot in any.
+    /// Returns a table of `count` entries without slots.
     pub(crate) fn new(alloc: Global, count: u32) -> Result<SlotTable, ArenaFault>
         ensures ok { IfOk result (λ t. t ≡ replicate count None) }
         ensures fault { IfErr result (λ e. e ≡ ArenaFault.Memory) }
@@ -47,7 +49,7 @@ impl SlotTable {
         }
     }
 
-    /// Adds the entries of a block, with no slot in any.
+    /// Adds the entries of a block, without slots.
     pub(crate) fn grow(&mut self) -> Result<(), AllocError>
         ensures ok { OnOk result (self.new ≡ self.old ++ replicate 1024 None) }
         ensures err { OnErr result (self.new ≡ self.old) }
@@ -57,7 +59,7 @@ impl SlotTable {
         Ok(())
     }
 
-    /// The slot at an entry.
+    /// Returns the slot of an entry.
     #[inline(always)]
     pub(crate) fn get(&self, entry: u32) -> Option<u32>
         requires { entry < length self.now }
@@ -71,7 +73,7 @@ impl SlotTable {
         }
     }
 
-    /// Replaces the slot at an entry.
+    /// Replaces the slot of an entry.
     #[inline(always)]
     pub(crate) fn set(&mut self, entry: u32, slot: Option<u32>)
         requires entry { entry < length self.old }
@@ -81,7 +83,7 @@ impl SlotTable {
         self.numbers[entry as usize] = slot.unwrap_or(NO_SLOT);
     }
 
-    /// Keeps the first entries alone.
+    /// Drops all entries except the first `count`.
     pub(crate) fn truncate(&mut self, count: usize)
         ensures { self.new ≡ take count self.old }
     {

@@ -1,5 +1,13 @@
-//! The slots, with what lies beside their cells: the marks, which slots are protected, words that
-//! say what the cells say, and the next slot of each in its list.
+//! The slots with the tables next to their cells: marks, protected slots, words with the contents
+//! of cells, and the next slot of each in its list.
+//!
+//! Each slot has two bytes, a word and a slot number. The first byte is its mark: 0 or 1 while the
+//! slot is taken, one of which means "marked", and 2 after it is freed. The second byte says
+//! whether it is protected. The word has the contents of the cell except the hash, if they fit,
+//! there are no annotations and the cell was not freed. The number is the next slot of the list
+//! that the slot is in: the gray list while it is taken, the list of free slots after it is freed.
+//! So the state of a slot, the next one of its list, and mostly its contents are read without its
+//! cell.
 ghost use Rattle.std.specs.Prelude.{◌≡◌, ◌<◌, ◌≤◌, [], ◌++◌, length, map, replicate, slice_set};
 ghost use Rattle.std.specs.Prelude.{Some, None, IfSome, OnOk, OnErr};
 ghost use Rattle.rx_arena.specs.Inner.Node.{node_at, lone, changed, given_back, is_protected_node};
@@ -16,11 +24,11 @@ use crate::store::Store;
 use std::alloc::{AllocError, Global};
 use std::marker::Model;
 
-/// The mark of a cell that was given back.
+/// The mark of a freed cell.
 pub(crate) const GIVEN_BACK: u8 = 2;
 
-/// What each slot holds, if anything lies there: the cells, and for each its mark, whether its root
-/// count is above 0, the word of its body, and the next slot of the list that it stands in.
+/// The contents of each slot, if it has a cell: the cells, and for each slot its mark, whether it
+/// is protected, the word of its body, and the next slot of the list that it is in.
 #[derive(Drop)]
 pub(crate) struct Slots {
     cells: Store,
@@ -45,7 +53,7 @@ impl Model for Slots {
 }
 
 impl Slots {
-    /// No slots.
+    /// Returns no slots.
     pub(crate) fn new(alloc: Global) -> Slots
         ensures { result ≡ [] }
     {
@@ -58,7 +66,7 @@ impl Slots {
         }
     }
 
-    /// Adds a block of slots in which nothing lies.
+    /// Adds a block of slots without cells.
     pub(crate) fn grow(&mut self) -> Result<(), AllocError>
         ensures ok { OnOk result (self.new ≡ self.old ++ replicate 1024 None) }
         ensures err { OnErr result (self.new ≡ self.old) }
@@ -92,8 +100,8 @@ impl Slots {
         }
     }
 
-    /// Puts a new node with this body, whose word is known, and this mark, in no list, over what
-    /// lies at the slot.
+    /// Writes a new node with this body, whose word is known, and this mark, in no list, over the
+    /// contents of the slot.
     #[inline(always)]
     pub(crate) fn fill(&mut self, slot: u32, body: CellBody, word: u64, mark: u8)
         requires slot { slot < length self.old }
@@ -108,7 +116,7 @@ impl Slots {
         self.nexts.set(slot, None);
     }
 
-    /// The body.
+    /// Returns the body.
     pub(crate) fn body(&self, slot: u32) -> CellBody
         requires { IsHeld self.now slot }
         ensures { IfSome (node_at self.now slot) (λ n. result ≡ n.body) }
@@ -116,7 +124,7 @@ impl Slots {
         self.cells.body(slot)
     }
 
-    /// The word that says what the cell says, where it can, and where it was not given back.
+    /// Returns the word with the contents of a cell that was not freed, if they fit.
     #[inline(always)]
     pub(crate) fn word(&self, slot: u32) -> u64
         requires { slot < length self.now }
@@ -125,7 +133,7 @@ impl Slots {
         self.words[slot as usize]
     }
 
-    /// The root count.
+    /// Returns the number of protections.
     pub(crate) fn roots(&self, slot: u32) -> u16
         requires { IsHeld self.now slot }
         ensures { IfSome (node_at self.now slot) (λ n. result ≡ n.roots) }
@@ -133,7 +141,7 @@ impl Slots {
         self.cells.roots(slot)
     }
 
-    /// Replaces the root count.
+    /// Replaces the number of protections.
     pub(crate) fn set_roots(&mut self, slot: u32, count: u16)
         requires { IsHeld self.old slot }
         ensures { self.new ≡ changed slot (with_roots count) self.old }
@@ -142,7 +150,7 @@ impl Slots {
         self.protected[slot as usize] = count > 0;
     }
 
-    /// Whether the root count is above 0.
+    /// Returns whether the slot is protected.
     pub(crate) fn is_protected(&self, slot: u32) -> bool
         requires { IsHeld self.now slot }
         ensures { result ≡ is_protected_node (node_at self.now slot) }
@@ -150,7 +158,7 @@ impl Slots {
         self.protected[slot as usize]
     }
 
-    /// The mark.
+    /// Returns the mark.
     pub(crate) fn mark(&self, slot: u32) -> u8
         requires { IsHeld self.now slot }
         ensures { IfSome (node_at self.now slot) (λ n. result ≡ n.mark) }
@@ -158,7 +166,7 @@ impl Slots {
         self.marks[slot as usize]
     }
 
-    /// Replaces the mark of a cell that was not given back.
+    /// Replaces the mark of a cell that was not freed.
     pub(crate) fn set_mark(&mut self, slot: u32, mark: u8)
         requires held { IsHeld self.old slot }
         requires taken { IfSome (node_at self.old slot) (λ n. n.mark ≤ 1) }
@@ -168,7 +176,7 @@ impl Slots {
         self.marks[slot as usize] = mark;
     }
 
-    /// Marks a cell as one that was given back, in front of the list that begins with `next`.
+    /// Marks a cell as freed, in front of the list that begins with `next`.
     pub(crate) fn give_back(&mut self, slot: u32, next: Option<u32>)
         requires held { IsHeld self.old slot }
         requires small { IfSome next (λ t. t < 4294967295) }
@@ -179,7 +187,7 @@ impl Slots {
         self.nexts.set(slot, next);
     }
 
-    /// The next slot of the chain.
+    /// Returns the next slot of the chain.
     #[inline(always)]
     pub(crate) fn chain_next(&self, slot: u32) -> Option<u32>
         requires { IsHeld self.now slot
@@ -199,7 +207,7 @@ impl Slots {
         self.cells.set_chain_next(slot, next)
     }
 
-    /// The next slot of the list that the slot stands in. The cell is not touched.
+    /// Returns the next slot of the list that the slot is in. The cell is not read.
     #[inline(always)]
     pub(crate) fn next(&self, slot: u32) -> Option<u32>
         requires { IsHeld self.now slot }
@@ -208,7 +216,7 @@ impl Slots {
         self.nexts.get(slot)
     }
 
-    /// Replaces the next slot of the list that the slot stands in. The cell is not touched.
+    /// Replaces the next slot of the list that the slot is in. The cell is not written.
     #[inline(always)]
     pub(crate) fn set_next(&mut self, slot: u32, next: Option<u32>)
         requires held { IsHeld self.old slot }

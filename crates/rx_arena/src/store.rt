@@ -1,4 +1,4 @@
-//! The blocks, and the cells in them by their slots' numbers.
+//! The blocks, and the cells in them by the numbers of their slots.
 ghost use Rattle.std.specs.Prelude.{◌≡◌, ◌≢◌, ℕ, ◌*◌, ◌<◌, List, [], ◌++◌, length, replicate};
 ghost use Rattle.std.specs.Prelude.{slice_set};
 ghost use Rattle.std.specs.Prelude.{Option, Some, None, IfSome, OnOk, OnErr};
@@ -14,14 +14,14 @@ use crate::room::{BLOCK, Lease, allocate};
 use std::alloc::{AllocError, Allocator, Global};
 use std::marker::Model;
 
-/// A block: where it begins, and the right to give it back.
+/// A block: its start, and the right to free it.
 pub struct Block<A: Allocator> {
     pub(crate) base: Base,
     pub(crate) lease: Lease<A>,
 }
 
-/// All blocks, over any allocator, seen as one list: what each slot holds, if anything lies there.
-/// Users of an arena need it for tests alone, which count what it asks for and gives back.
+/// All blocks, over any allocator, seen as one list with the contents of each slot. Users of an
+/// arena need it only for tests that count its allocations.
 pub struct Store<A: Allocator + Copy = Global> {
     alloc: A,
     blocks: Vec<Block<A>, A>,
@@ -40,7 +40,7 @@ impl<A: Allocator + Copy> Model for Store<A> {
     ghost invariant = { λ s. Agree s.alloc s.blocks.items s.cells };
 }
 
-/// Where the slot lies: a look-up of its block, with no search.
+/// Returns the address of a slot: an index into the blocks, without a search.
 fn place<A: Allocator>(blocks: &[Block<A>], slot: u32) -> Place
     requires { slot < 1024 * length blocks.now }
     ensures { (result.slot ≡ slot) × (result.at ≡ spec.place (bases blocks.now) slot) }
@@ -52,7 +52,7 @@ fn place<A: Allocator>(blocks: &[Block<A>], slot: u32) -> Place
     }
 }
 
-/// What the link of `slot` becomes.
+/// Returns the new link of `slot`.
 fn target<A: Allocator>(blocks: &[Block<A>], slot: u32, next: Option<u32>) -> Target
     requires slot { slot < 1024 * length blocks.now }
     requires next { IfSome next (λ t. t < 1024 * length blocks.now) }
@@ -68,7 +68,7 @@ fn target<A: Allocator>(blocks: &[Block<A>], slot: u32, next: Option<u32>) -> Ta
     }
 }
 
-/// The slot that the link of `slot` is to, by the number found behind the link.
+/// Returns the slot that the link of `slot` leads to, from the number that was found there.
 fn other(slot: u32, found: u32) -> Option<u32>
     ensures end { found ≡ slot → result ≡ None }
     ensures on { found ≢ slot → result ≡ Some found }
@@ -77,7 +77,7 @@ fn other(slot: u32, found: u32) -> Option<u32>
 }
 
 impl<A: Allocator + Copy> Store<A> {
-    /// A store of no cells.
+    /// Returns a store without cells.
     pub fn new(alloc: A) -> Store<A>
         ensures { result ≡ [] }
     {
@@ -88,7 +88,7 @@ impl<A: Allocator + Copy> Store<A> {
         }
     }
 
-    /// Adds a block of slots in which nothing lies.
+    /// Adds a block of slots without cells.
     pub fn grow(&mut self) -> Result<(), AllocError>
         ensures ok { OnOk result (self.new ≡ self.old ++ replicate 1024 None) }
         ensures err { OnErr result (self.new ≡ self.old) }
@@ -104,7 +104,7 @@ impl<A: Allocator + Copy> Store<A> {
         }
     }
 
-    /// Puts a new cell with this body, in no chain, over what lies at the slot.
+    /// Writes a new cell with this body, in no chain, over the contents of the slot.
     #[inline(always)]
     pub(crate) fn fill(&mut self, slot: u32, body: CellBody)
         requires { slot < length self.old }
@@ -114,7 +114,7 @@ impl<A: Allocator + Copy> Store<A> {
         self.cells.fill(at, body)
     }
 
-    /// The body.
+    /// Returns the body.
     pub(crate) fn body(&self, slot: u32) -> CellBody
         requires { IsHeld self.now slot }
         ensures { IfSome (node_at self.now slot) (λ n. result ≡ n.body) }
@@ -122,7 +122,7 @@ impl<A: Allocator + Copy> Store<A> {
         self.cells.get(place(&self.blocks, slot)).body()
     }
 
-    /// The root count.
+    /// Returns the number of protections.
     pub(crate) fn roots(&self, slot: u32) -> u16
         requires { IsHeld self.now slot }
         ensures { IfSome (node_at self.now slot) (λ n. result ≡ n.roots) }
@@ -130,7 +130,7 @@ impl<A: Allocator + Copy> Store<A> {
         self.cells.get(place(&self.blocks, slot)).roots
     }
 
-    /// Replaces the root count.
+    /// Replaces the number of protections.
     pub(crate) fn set_roots(&mut self, slot: u32, count: u16)
         requires { IsHeld self.old slot }
         ensures { self.new ≡ changed slot (cell_with_roots count) self.old }
@@ -139,7 +139,7 @@ impl<A: Allocator + Copy> Store<A> {
         self.cells.set_roots(at, count)
     }
 
-    /// The next slot of the chain.
+    /// Returns the next slot of the chain.
     #[inline(always)]
     pub(crate) fn chain_next(&self, slot: u32) -> Option<u32>
         requires { IsHeld self.now slot

@@ -6,14 +6,6 @@ use Rattle.rx_term.specs.Tree.{Tree}
 use Rattle.rx_term.specs.Walks.{held_tree}
 use Rattle.rx_term.specs.declared.Term.{Term}
 use Rattle.rx_run.specs.TermRuns.{lines_at}
-use Rattle.rx_look.specs.Due.{IsUnrooted}
-use Rattle.rx_look.specs.declared.runs.Look.{Look}
-use Rattle.rx_look.specs.declared.runs.Look.TheVariants.{Indented, Graph}
-
--- where protections stay, none come
-pub still_unrooted : (look : Look) (old new : Store) → new.roots ≡ old.roots → IsUnrooted look old → IsUnrooted look new
-still_unrooted (Indented n) old new e h = tt
-still_unrooted (Graph n) old new e h = λ t. ap (λ roots. roots t) e ∙ h t
 
 -- the lines of a tree that is held
 pub lines_held : (lines : Tree → List ℕ) (w v : Store) (t : Term) → IsSome (tree_at w t) → tree_at v t ≡ tree_at w t

@@ -1,4 +1,4 @@
--- What is left to be written of a text over several lines: views of the writer's jobs.
+-- The text of the jobs that are left, for a text over several lines.
 use Rattle.std.specs.Prelude.{◌≡◌, ℕ, ◌+◌, ◌<◌, ◌≤◌, List, [], ◌∷◌, ◌++◌, Option, IsSome, replicate}
 use Rattle.std.specs.Prelude.{vec_len}
 use Rattle.std.specs.List.{AllByRecursion}
@@ -18,11 +18,11 @@ use Rattle.rx_look.specs.declared.layout.Piece.TheVariants as piece
 use Rattle.rx_look.specs.declared.layout.Job.{Job}
 use Rattle.rx_look.specs.declared.layout.Layout.{Layout}
 
--- the annotations of a tree on lines behind m blanks
+-- notes_laid n m anns: the annotations of a tree, whose lines start with `m` blanks
 abbrev pub notes_laid : ℕ → ℕ → Trees → List ℕ
 notes_laid n m anns = block n m 123 anns (laid_all n (m + n) anns) 125 []
 
--- a tree without its annotations
+-- body_laid n m t: a tree without its annotations
 abbrev pub body_laid : ℕ → ℕ → Tree → List ℕ
 body_laid n m (Int z anns) = signed_decimal z
 body_laid n m (Appl name quoted args anns) = name_text name quoted
@@ -30,20 +30,20 @@ body_laid n m (Appl name quoted args anns) = name_text name quoted
 body_laid n m (Items items anns) = block n m 91 items (laid_all n (m + n) items) 93 (91 ∷ 93 ∷ [])
 body_laid n m (Hole inner anns) = between n m 60 (laid_at n (m + n) inner) 62
 
--- the arguments of an application
+-- arguments_laid n m t: the arguments of an application
 abbrev pub arguments_laid : ℕ → ℕ → Tree → List ℕ
 arguments_laid n m (Appl name quoted args anns) =
     block n m 40 args (laid_all n (m + n) args) 41 (no_arguments name quoted)
 arguments_laid n m t = []
 
--- the text of an atom
+-- atom_text w m a: the text of an atom
 abbrev pub atom_text : Store → ℕ → Atom → List ℕ
 atom_text w m (atom.Byte b) = b ∷ []
 atom_text w m (atom.Integer z) = signed_decimal z
 atom_text w m (atom.Name s) = option_map_or (λ g. name_text g.name g.quoted) (signature_of w s) []
 atom_text w m atom.Break = new_line m
 
--- the text of a piece on lines behind m blanks
+-- piece_text w n m p: the text of a piece, whose lines start with `m` blanks
 abbrev pub piece_text : Store → ℕ → ℕ → Piece → List ℕ
 piece_text w n m (piece.Atom a) = atom_text w m a
 piece_text w n m (piece.Tree t) = seen [] (λ u. laid_at n m u) (tree_at w t)
@@ -51,12 +51,12 @@ piece_text w n m (piece.Notes t) = seen [] (λ u. notes_laid n m (annotations u)
 piece_text w n m (piece.Items t) = seen [] (λ u. laid_all n m (items_of u)) (tree_at w t)
 piece_text w n m (piece.Others t) = seen [] (λ u. laid_others n m (items_of u)) (tree_at w t)
 
--- the text of a job
+-- job_text w n j: the text of a job
 abbrev pub job_text : Store → ℕ → Job → List ℕ
 job_text w n j = piece_text w n j.margin j.piece
 
 abbrev mutual
-  -- more than its parts together
+  -- size t, sizes ts: a measure that is greater than that of all parts together
   pub size : Tree → ℕ
   size (Int z anns) = 7 + sizes anns
   size (Appl name quoted args anns) = 12 + sizes args + sizes anns
@@ -67,18 +67,19 @@ abbrev mutual
   sizes none = 1
   sizes (more t ts) = 3 + size t + sizes ts
 
--- the same without annotations
+-- body_size t: the measure of a tree without its annotations
 abbrev pub body_size : Tree → ℕ
 body_size (Int z anns) = 2
 body_size (Appl name quoted args anns) = 7 + sizes args
 body_size (Items items anns) = 6 + sizes items
 body_size (Hole inner anns) = 6 + size inner
 
+-- arguments_size t: the measure of the arguments of an application
 abbrev pub arguments_size : Tree → ℕ
 arguments_size (Appl name quoted args anns) = 5 + sizes args
 arguments_size t = 1
 
--- how much there is to do
+-- piece_size w p: the measure of a piece
 abbrev pub piece_size : Store → Piece → ℕ
 piece_size w (piece.Atom a) = 1
 piece_size w (piece.Tree t) = seen 1 size (tree_at w t)
@@ -86,14 +87,14 @@ piece_size w (piece.Notes t) = seen 1 (λ u. 5 + sizes (annotations u)) (tree_at
 piece_size w (piece.Items t) = seen 1 (λ u. sizes (items_of u)) (tree_at w t)
 piece_size w (piece.Others t) = seen 1 (λ u. sizes (items_of u)) (tree_at w t)
 
--- a name's symbol is there
+-- IsAtom w a: the symbol of a name exists
 abbrev pub IsAtom : Store → Atom → Type 0
 IsAtom w (atom.Byte b) = Unit {0}
 IsAtom w (atom.Integer z) = Unit {0}
 IsAtom w (atom.Name s) = IsSome (signature_of w s)
 IsAtom w atom.Break = Unit {0}
 
--- what it speaks of is there
+-- IsPiece w p: the store has the term or symbol of a piece
 abbrev pub IsPiece : Store → Piece → Type 0
 IsPiece w (piece.Atom a) = IsAtom w a
 IsPiece w (piece.Tree t) = IsSome (tree_at w t)
@@ -101,56 +102,60 @@ IsPiece w (piece.Notes t) = IsSome (tree_at w t)
 IsPiece w (piece.Items t) = IsList (tree_at w t)
 IsPiece w (piece.Others t) = IsList (tree_at w t)
 
--- and there are enough blanks for it
+-- IsJob w room j: the piece of a job exists, and there are enough blanks for its lines
 abbrev pub IsJob : Store → ℕ → Job → Type 0
 IsJob w room j = IsPiece w j.piece × (j.margin ≤ room)
 
--- the text of jobs, of which the last is done first
+-- jobs_text w n js: the text of a stack of jobs; the last job is done first
 abbrev pub jobs_text : Store → ℕ → List Job → List ℕ
 jobs_text w n [] = []
 jobs_text w n (j ∷ js) = jobs_text w n js ++ job_text w n j
 
+-- jobs_size w js: the sum of the measures of some jobs
 abbrev pub jobs_size : Store → List Job → ℕ
 jobs_size w [] = 0
 jobs_size w (j ∷ js) = piece_size w j.piece + jobs_size w js
 
--- how many blanks there are
+-- room l: the number of blanks
 abbrev pub room : Layout → ℕ
 room l = vec_len l.blanks
 
--- blanks are blanks
+-- IsBlank l: all bytes of `blanks` are blanks
 abbrev pub IsBlank : Layout → Type 0
 IsBlank l = l.blanks.items ≡ replicate (room l) 32
 
--- a level has as many blanks as before, and no line lost its own
+-- Keeps old new: the blanks of a level are unchanged, and no line lost its blanks
 pub record Keeps (old new : Layout) : Type 0 where
   pub indent : new.indent ≡ old.indent
   pub room : room old ≤ room new
   pub blank : IsBlank new
 
--- the same jobs, and enough blanks for the next level
+-- Deepens margin old new inner: the jobs are unchanged, and there are enough blanks for the next
+-- level
 pub record Deepens (margin : ℕ) (old new : Layout) (inner : ℕ) : Type 0 where
   pub jobs : new.jobs.items ≡ old.jobs.items
   pub kept : Keeps old new
   pub deeper : inner ≡ margin + old.indent
   pub within : inner ≤ room new
 
--- so many jobs more
+-- Adds added old new: these jobs were pushed
 pub record Adds (added : List Job) (old new : Layout) : Type 0 where
   pub jobs : new.jobs.items ≡ old.jobs.items ++ added
   pub kept : Keeps old new
 
+-- job_at m p: the job of a piece whose lines start with `m` blanks
 abbrev pub job_at : ℕ → Piece → Job
 job_at m p = record { piece = p; margin = m }
 
--- a piece on lines of its own between two marks, the last job first
+-- enclosing n m left p right: the jobs of a piece on lines of its own between two marks, the last
+-- job first
 abbrev pub enclosing : ℕ → ℕ → ℕ → Piece → ℕ → List Job
 enclosing n m left p right =
     job_at m (piece.Atom (atom.Byte right)) ∷ job_at m (piece.Atom atom.Break)
     ∷ job_at (m + n) p
     ∷ job_at (m + n) (piece.Atom atom.Break) ∷ job_at m (piece.Atom (atom.Byte left)) ∷ []
 
--- the jobs that were added are the text
+-- Spreads w whole space old new: jobs were pushed whose text is `whole`
 pub record Spreads (w : Store) (whole : List ℕ) (space : ℕ) (old new : Layout) : Type 0 where
   pub added : List Job
   pub adds : Adds added old new
@@ -158,7 +163,8 @@ pub record Spreads (w : Store) (whole : List ℕ) (space : ℕ) (old new : Layou
   pub jobs : AllByRecursion (IsJob w (room new)) added
   pub less : jobs_size w added < space
 
--- a front of the text was written, and the jobs that were added are the rest of it
+-- Leaves w whole space before after old new: a prefix of `whole` was written, and jobs were pushed
+-- for the rest
 pub record Leaves (w : Store) (whole : List ℕ) (space : ℕ) (before after : Option (List ℕ))
     (old new : Layout) : Type 0 where
   pub front : List ℕ

@@ -4,4 +4,3 @@ pub mod Layout
 pub mod Graph
 pub mod Drawing
 pub mod Due
-pub mod Faults

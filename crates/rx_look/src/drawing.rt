@@ -1,10 +1,10 @@
-//! Writing the shared graph of a term for Graphviz.
+//! Writes the shared graph of a term for Graphviz.
 
 ghost use Rattle.std.specs.Prelude.{◌≡◌, IfOk, IsSome, OnErr, OnOk, min};
 ghost use Rattle.rx_term.specs.Parts.{part_count};
 ghost use Rattle.rx_term.specs.Store.{tree_at};
 ghost use Rattle.rx_term.specs.Walks.{held_tree};
-ghost use Rattle.rx_text.specs.Output.{IsSameOutput, IsWritable, TellsFault};
+ghost use Rattle.rx_text.specs.Output.{ReportsFault};
 ghost use Rattle.rx_text.specs.Output.{Writes, WritesFront};
 ghost use Rattle.rx_look.specs.Drawing.{AreHeld, Passes, next_lines};
 ghost use Rattle.rx_look.specs.Graph.{first_lines, graph_text, order, rest_line};
@@ -16,19 +16,19 @@ use rx_text::{Output, WriteFault};
 use std::alloc::{AllocError, Global};
 use std::io::Write;
 
-/// What the text begins with.
+/// The first lines of a graph.
 const HEADING: &[u8] = b"digraph term {\n  node [shape=box, fontname=\"monospace\"];\n";
 
-/// How many nodes may be written, and how many parts there are.
+/// The limit of nodes, and the number of parts.
 #[derive(Clone, Copy, Drop)]
 pub struct Extent {
-    /// At most so many nodes are written.
+    /// The greatest number of nodes that are written.
     pub nodes: u32,
-    /// The term has so many different parts.
+    /// The number of different parts of the term.
     pub cells: u32,
 }
 
-/// Writes the lines of the part with a number, where there is one.
+/// Writes the lines of the part with this number, if there is one.
 fn write_part<B: TermBank, W: Write>(
     alloc: Global,
     bank: &B,
@@ -37,14 +37,12 @@ fn write_part<B: TermBank, W: Write>(
     out: &mut Output<'_, W>,
 ) -> Result<(), WriteFault>
     requires held { AreHeld (B.store bank.now) graph.old }
-    requires open { IsWritable out.old }
     ensures passed { OnOk result (Passes (B.store bank.now) number graph.old graph.new) }
     ensures written { OnOk result (Writes W.contents out.old out.new
         (next_lines (B.store bank.now) number graph.old)) }
     ensures front { OnErr result (WritesFront W.contents out.old out.new
         (next_lines (B.store bank.now) number graph.old)) }
-    ensures same { IsSameOutput out.old out.new }
-    ensures cause { TellsFault out.new result }
+    ensures reports { ReportsFault out.old out.new result }
 {
     match graph.part(number) {
         Some(part) => match graph.look_at(alloc, bank, number, part) {
@@ -55,7 +53,7 @@ fn write_part<B: TermBank, W: Write>(
     }
 }
 
-/// Writes the lines of the parts that are written.
+/// Writes the lines of the parts up to the limit.
 fn write_parts<B: TermBank, W: Write>(
     alloc: Global,
     bank: &B,
@@ -65,15 +63,13 @@ fn write_parts<B: TermBank, W: Write>(
 ) -> Result<(), WriteFault>
     requires held { IsSome (tree_at (B.store bank.now) t) }
     requires counted { extent.cells ≡ part_count (held_tree (B.store bank.now) t) }
-    requires open { IsWritable out.old }
     ensures written { OnOk result (Writes W.contents out.old out.new
         (first_lines extent.nodes (order (held_tree (B.store bank.now) t))
         (min extent.nodes extent.cells))) }
     ensures front { OnErr result (WritesFront W.contents out.old out.new
         (first_lines extent.nodes (order (held_tree (B.store bank.now) t))
         (min extent.nodes extent.cells))) }
-    ensures same { IsSameOutput out.old out.new }
-    ensures cause { TellsFault out.new result }
+    ensures reports { ReportsFault out.old out.new result }
 {
     let Ok(mut graph) = Graph::new(alloc, extent.nodes as usize, t) else {
         return Err(WriteFault::Memory);
@@ -84,7 +80,7 @@ fn write_parts<B: TermBank, W: Write>(
     Ok(())
 }
 
-/// The line that says how many nodes are left out, where any are.
+/// Returns the line with the number of nodes that are left out, or nothing for 0.
 fn rest_text(alloc: Global, count: usize) -> Result<Vec<u8>, AllocError>
     ensures { IfOk result (λ text. text.items ≡ rest_line count) }
 {
@@ -97,17 +93,15 @@ fn rest_text(alloc: Global, count: usize) -> Result<Vec<u8>, AllocError>
     Ok(text)
 }
 
-/// Writes how many nodes are left out, where any are.
+/// Writes the number of nodes that are left out, if there are some.
 fn write_rest<W: Write>(
     alloc: Global,
     count: u32,
     out: &mut Output<'_, W>,
 ) -> Result<(), WriteFault>
-    requires { IsWritable out.old }
     ensures written { OnOk result (Writes W.contents out.old out.new (rest_line count)) }
     ensures front { OnErr result (WritesFront W.contents out.old out.new (rest_line count)) }
-    ensures same { IsSameOutput out.old out.new }
-    ensures cause { TellsFault out.new result }
+    ensures reports { ReportsFault out.old out.new result }
 {
     match rest_text(alloc, count as usize) {
         Ok(text) => Ok(out.put(&text)?),
@@ -115,10 +109,12 @@ fn write_rest<W: Write>(
     }
 }
 
-/// Writes the shared graph of a term for Graphviz: a node for each different part, in the order in
-/// which they are found level by level from the term on, and behind its line those of the edges to
-/// its own parts. Where there are more parts than `nodes`, the first are written, the edges between
-/// them, and how many are left out. The output is asked no more once it refused.
+/// Writes the shared graph of a term for Graphviz.
+///
+/// The graph has a node for each different part, in breadth-first order from the term. Each node is
+/// followed by the edges to its own parts. If there are more parts than `extent.nodes`, the first
+/// ones are written with the edges between them, and the number of the others. After a failure the
+/// writer is not called again.
 pub fn write_graph_to<B: TermBank, W: Write>(
     alloc: Global,
     bank: &B,
@@ -128,13 +124,11 @@ pub fn write_graph_to<B: TermBank, W: Write>(
 ) -> Result<(), WriteFault>
     requires held { IsSome (tree_at (B.store bank.now) t) }
     requires counted { extent.cells ≡ part_count (held_tree (B.store bank.now) t) }
-    requires open { IsWritable out.old }
     ensures written { OnOk result (Writes W.contents out.old out.new
         (graph_text extent.nodes (held_tree (B.store bank.now) t))) }
     ensures front { OnErr result (WritesFront W.contents out.old out.new
         (graph_text extent.nodes (held_tree (B.store bank.now) t))) }
-    ensures same { IsSameOutput out.old out.new }
-    ensures cause { TellsFault out.new result }
+    ensures reports { ReportsFault out.old out.new result }
 {
     out.put(HEADING)?;
     write_parts(alloc, bank, t, extent, out)?;

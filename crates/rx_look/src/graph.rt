@@ -1,5 +1,5 @@
-//! The shared graph of a term: its different parts, in the order in which they are found, and the
-//! lines of the part at hand.
+//! The shared graph of a term: its different parts in the order of discovery, and the lines of the
+//! current part.
 
 ghost use Rattle.std.specs.Prelude.{◌≡◌, ◌++◌, ◌∷◌, [], IfOk, IsSome, OnOk, nat_eq, slice_get};
 ghost use Rattle.std.specs.Option.{option_map};
@@ -20,16 +20,16 @@ use std::alloc::{AllocError, Global};
 /// A graph that is written part by part.
 #[derive(Drop)]
 pub struct Graph {
-    /// The parts that were found, by their references.
+    /// The parts that were discovered, by their references.
     pub found: IndexSet<u32>,
-    /// How many nodes there may be. Parts that were found later have no edges.
+    /// The greatest number of nodes. Parts that were discovered later have no edges.
     pub nodes: usize,
-    /// The lines of the part at hand.
+    /// The lines of the current part.
     pub lines: Vec<u8>,
 }
 
 impl Graph {
-    /// A graph of at most so many nodes, in which one part was found.
+    /// Creates a graph with at most `nodes` nodes, in which one part was discovered.
     pub fn new(alloc: Global, nodes: usize, first: Term) -> Result<Graph, AllocError>
         ensures found { IfOk result (λ graph. graph.found.keys ≡ first.0 ∷ []) }
         ensures nodes { IfOk result (λ graph. graph.nodes ≡ nodes) }
@@ -43,7 +43,7 @@ impl Graph {
         })
     }
 
-    /// The part with a number.
+    /// Returns the part with this number.
     pub fn part(&self, number: usize) -> Option<Term>
         ensures { result ≡ option_map term_of (slice_get self.now.found.keys number) }
     {
@@ -53,7 +53,7 @@ impl Graph {
         }
     }
 
-    /// The number of a part, which is put last where it was not found before.
+    /// Returns the number of a part. A new part is appended.
     fn number_of(&mut self, part: Term) -> Result<usize, AllocError>
         ensures number { IfOk result (λ number.
             number ≡ position_or_len (nat_eq part.0) self.old.found.keys) }
@@ -66,7 +66,7 @@ impl Graph {
         Ok(number)
     }
 
-    /// Adds the line of an edge.
+    /// Appends the line of an edge.
     fn push_edge(&mut self, from: usize, to: usize, name: &[u8]) -> Result<(), AllocError>
         ensures lines { OnOk result
             (self.new.lines.items ≡ self.old.lines.items ++ edge_line from to name.now) }
@@ -82,7 +82,8 @@ impl Graph {
         self.lines.extend_from_slice(b"\"];\n")
     }
 
-    /// Follows a link to a part, which is found; its edge is written where that is a node.
+    /// Discovers the part at the end of an edge. The line of the edge is appended if the part is a
+    /// node.
     fn follow<B: TermBank>(
         &mut self,
         bank: &B,
@@ -102,7 +103,7 @@ impl Graph {
         Ok(())
     }
 
-    /// Follows the links to what stands inside a part.
+    /// Follows the edges to the arguments, items or inner term of a part.
     fn follow_inside<B: TermBank>(
         &mut self,
         bank: &B,
@@ -123,7 +124,7 @@ impl Graph {
         }
     }
 
-    /// Follows the links to the head and to the tail of a list.
+    /// Follows the edges to the head and the tail of a list.
     fn follow_items<B: TermBank>(
         &mut self,
         bank: &B,
@@ -139,7 +140,7 @@ impl Graph {
         self.follow(bank, from, b"tail", bank.tail(list))
     }
 
-    /// Follows the link to the annotations of a part, where it has any.
+    /// Follows the edge to the annotations of a part, if it has some.
     fn follow_annotations<B: TermBank>(
         &mut self,
         bank: &B,
@@ -158,7 +159,7 @@ impl Graph {
         }
     }
 
-    /// Follows the links of a part.
+    /// Follows the edges of a part.
     fn follow_links<B: TermBank>(
         &mut self,
         bank: &B,
@@ -174,7 +175,7 @@ impl Graph {
         self.follow_annotations(bank, from, part)
     }
 
-    /// Looks at a part: its lines are its node and the edges from it.
+    /// Visits a part. Its lines are its node and the edges from it.
     pub fn look_at<B: TermBank>(
         &mut self,
         alloc: Global,

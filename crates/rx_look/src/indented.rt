@@ -1,4 +1,4 @@
-//! Printing the tree of a reference over several lines.
+//! Prints the tree of a term over several lines.
 
 ghost use Rattle.std.specs.Prelude.{◌≡◌, ◌≤◌, ◌+◌, [], IfSome, IsOkUnless, IsSome, OnErr, OnOk};
 ghost use Rattle.std.specs.Prelude.{length, replicate};
@@ -7,7 +7,7 @@ ghost use Rattle.std.specs.Io.KnownBytes.{Appends};
 ghost use Rattle.rx_term.specs.Kinds.{HasAppl};
 ghost use Rattle.rx_term.specs.Store.{tree_at};
 ghost use Rattle.rx_text.specs.Inner.Jobs.{seen};
-ghost use Rattle.rx_text.specs.Output.{IsSameOutput, IsWritable, TellsFault, TellsRefusal};
+ghost use Rattle.rx_text.specs.Output.{ReportsFault, ReportsRefusal};
 ghost use Rattle.rx_text.specs.Output.{Writes, WritesFront, contents_of};
 ghost use Rattle.rx_text.specs.Written.{AppendsFront};
 ghost use Rattle.rx_look.specs.Laid.{laid, new_line};
@@ -37,16 +37,14 @@ use rx_text::{Output, RefusedWrite, WriteFault};
 use std::alloc::Global;
 use std::io::Write;
 
-/// Writes a line feed, and the blanks of a line.
+/// Writes a line feed and the blanks of a line.
 fn write_break<W: Write>(blanks: &[u8], out: &mut Output<'_, W>) -> Result<(), RefusedWrite>
     requires blank { blanks.now ≡ replicate (length blanks.now) 32 }
-    requires open { IsWritable out.old }
     ensures written { OnOk result (Writes W.contents out.old out.new
         (new_line (length blanks.now))) }
     ensures front { OnErr result (WritesFront W.contents out.old out.new
         (new_line (length blanks.now))) }
-    ensures same { IsSameOutput out.old out.new }
-    ensures cause { TellsRefusal out.new result }
+    ensures reports { ReportsRefusal out.old out.new result }
 {
     out.put(b"\n")?;
     out.put(blanks)
@@ -54,17 +52,15 @@ fn write_break<W: Write>(blanks: &[u8], out: &mut Output<'_, W>) -> Result<(), R
 
 /// Writes an integer.
 fn write_integer<W: Write>(value: i32, out: &mut Output<'_, W>) -> Result<(), RefusedWrite>
-    requires { IsWritable out.old }
     ensures written { OnOk result (Writes W.contents out.old out.new (signed_decimal value)) }
     ensures front { OnErr result (WritesFront W.contents out.old out.new (signed_decimal value)) }
-    ensures same { IsSameOutput out.old out.new }
-    ensures cause { TellsRefusal out.new result }
+    ensures reports { ReportsRefusal out.old out.new result }
 {
     let mut buffer = Buffer::new();
     out.put(buffer.format(value).as_bytes())
 }
 
-/// Writes what is written at once; `blanks` are those of its line.
+/// Writes an atom. `blanks` has the blanks of its line.
 fn write_atom<B: TermBank, W: Write>(
     alloc: Global,
     bank: &B,
@@ -74,13 +70,11 @@ fn write_atom<B: TermBank, W: Write>(
 ) -> Result<(), WriteFault>
     requires atom { IsAtom (B.store bank.now) atom }
     requires blank { blanks.now ≡ replicate (length blanks.now) 32 }
-    requires open { IsWritable out.old }
     ensures written { OnOk result (Writes W.contents out.old out.new
         (atom_text (B.store bank.now) (length blanks.now) atom)) }
     ensures front { OnErr result (WritesFront W.contents out.old out.new
         (atom_text (B.store bank.now) (length blanks.now) atom)) }
-    ensures same { IsSameOutput out.old out.new }
-    ensures cause { TellsFault out.new result }
+    ensures reports { ReportsFault out.old out.new result }
 {
     match atom {
         Atom::Byte(byte) => Ok(out.put(&[byte])?),
@@ -92,7 +86,7 @@ fn write_atom<B: TermBank, W: Write>(
     }
 }
 
-/// Leaves the arguments of an application, in parentheses, or what stands in their place.
+/// Pushes the arguments of an application in parentheses, or the text for none.
 fn spread_arguments<B: TermBank>(
     bank: &B,
     term: Term,
@@ -121,7 +115,7 @@ fn spread_arguments<B: TermBank>(
     }
 }
 
-/// Leaves an application without its annotations.
+/// Pushes an application without its annotations.
 fn spread_application<B: TermBank>(
     bank: &B,
     term: Term,
@@ -141,7 +135,7 @@ fn spread_application<B: TermBank>(
     layout.leave(&[Job::atom(Atom::Name(symbol), margin)])
 }
 
-/// Leaves a tree without its annotations.
+/// Pushes a tree without its annotations.
 fn spread_body<B: TermBank>(
     bank: &B,
     term: Term,
@@ -171,7 +165,7 @@ fn spread_body<B: TermBank>(
     }
 }
 
-/// Leaves a tree, and behind it its annotations.
+/// Pushes a tree, followed by its annotations.
 fn spread_tree<B: TermBank>(
     bank: &B,
     term: Term,
@@ -191,7 +185,7 @@ fn spread_tree<B: TermBank>(
     spread_body(bank, term, margin, layout)
 }
 
-/// Leaves the annotations of a tree, in braces, where it has any.
+/// Pushes the annotations of a tree in braces, if it has some.
 fn spread_notes<B: TermBank>(
     bank: &B,
     term: Term,
@@ -212,7 +206,7 @@ fn spread_notes<B: TermBank>(
     }
 }
 
-/// Leaves the items of a list, with commas between.
+/// Pushes the items of a list, separated by commas.
 fn spread_items<B: TermBank>(
     bank: &B,
     list: Term,
@@ -245,7 +239,7 @@ fn spread_items<B: TermBank>(
     }
 }
 
-/// Leaves the items of a list, each behind a comma on a line of its own.
+/// Pushes the items of a list, each after a comma on a line of its own.
 fn spread_others<B: TermBank>(
     bank: &B,
     list: Term,
@@ -280,7 +274,7 @@ fn spread_others<B: TermBank>(
     }
 }
 
-/// Does the front of a job; the rest of it is left to do.
+/// Writes the start of a job, and pushes the rest of it.
 fn write_job<B: TermBank, W: Write>(
     alloc: Global,
     bank: &B,
@@ -290,15 +284,13 @@ fn write_job<B: TermBank, W: Write>(
 ) -> Result<(), WriteFault>
     requires job { IsJob (B.store bank.now) (room layout.old) job }
     requires blank { IsBlank layout.old }
-    requires open { IsWritable out.old }
     ensures written { OnOk result (Leaves (B.store bank.now)
         (job_text (B.store bank.now) layout.old.indent job)
         (piece_size (B.store bank.now) job.piece)
         (contents_of W.contents out.old) (contents_of W.contents out.new) layout.old layout.new) }
     ensures front { OnErr result (WritesFront W.contents out.old out.new
         (job_text (B.store bank.now) layout.old.indent job)) }
-    ensures same { IsSameOutput out.old out.new }
-    ensures cause { TellsFault out.new result }
+    ensures reports { ReportsFault out.old out.new result }
 {
     match job.piece {
         Piece::Atom(atom) => write_atom(alloc, bank, atom, &layout.blanks[..job.margin], out),
@@ -309,9 +301,12 @@ fn write_job<B: TermBank, W: Write>(
     }
 }
 
-/// Prints the tree of a reference over several lines: behind each opening mark and each comma, and
-/// before each closing mark, stands a line feed, and `indent` blanks for each level behind it. An
-/// empty list and a name without arguments stay as they are.
+/// Prints the tree of a term over several lines.
+///
+/// A line feed and `indent` blanks for each level follow each opening mark and each comma, and
+/// precede each closing mark. An empty list and a name without arguments are printed as usual.
+/// `Memory` is returned if an allocation failed, `Write` if the writer failed; the output is then a
+/// prefix of the text.
 pub fn write_indented<B: TermBank, W: Write>(
     alloc: Global,
     bank: &B,
@@ -329,7 +324,8 @@ pub fn write_indented<B: TermBank, W: Write>(
     write_indented_to(alloc, bank, t, indent, &mut output)
 }
 
-/// The same into a writer that may have been written to. It is asked no more once it refused.
+/// Prints the tree of a term over several lines, like [`write_indented`], to an output that may
+/// have been written to before. After a failure the writer is not called again.
 pub fn write_indented_to<B: TermBank, W: Write>(
     alloc: Global,
     bank: &B,
@@ -338,13 +334,11 @@ pub fn write_indented_to<B: TermBank, W: Write>(
     out: &mut Output<'_, W>,
 ) -> Result<(), WriteFault>
     requires held { IsSome (tree_at (B.store bank.now) t) }
-    requires open { IsWritable out.old }
     ensures written { OnOk result (IfSome (tree_at (B.store bank.now) t)
         (λ u. Writes W.contents out.old out.new (laid indent u))) }
     ensures front { OnErr result (IfSome (tree_at (B.store bank.now) t)
         (λ u. WritesFront W.contents out.old out.new (laid indent u))) }
-    ensures same { IsSameOutput out.old out.new }
-    ensures cause { TellsFault out.new result }
+    ensures reports { ReportsFault out.old out.new result }
 {
     let mut layout = Layout::new(alloc, indent);
     let piece = Piece::Tree(t);

@@ -1,4 +1,4 @@
-//! What a node of a graph shows.
+//! The labels of nodes.
 
 ghost use Rattle.std.specs.Prelude.{◌≡◌, ◌++◌, IsSome, OnOk, decimal, flat_map};
 ghost use Rattle.std.specs.Fmt.{signed_decimal};
@@ -12,7 +12,7 @@ use itoa::Buffer;
 use rx_term::{Kind, Symbol, Term, TermBank};
 use std::alloc::{AllocError, Global};
 
-/// Adds one byte of a label.
+/// Appends one byte of a label, escaped if necessary.
 fn push_label_byte(text: &mut Vec<u8>, byte: u8) -> Result<(), AllocError>
     ensures added { OnOk result (text.new.items ≡ text.old.items ++ label_byte byte) }
 {
@@ -25,7 +25,7 @@ fn push_label_byte(text: &mut Vec<u8>, byte: u8) -> Result<(), AllocError>
     }
 }
 
-/// Adds some bytes of a label.
+/// Appends some bytes of a label, escaped if necessary.
 fn push_label_bytes(text: &mut Vec<u8>, bytes: &[u8]) -> Result<(), AllocError>
     ensures added { OnOk result
         (text.new.items ≡ text.old.items ++ flat_map label_byte bytes.now) }
@@ -36,21 +36,22 @@ fn push_label_bytes(text: &mut Vec<u8>, bytes: &[u8]) -> Result<(), AllocError>
     Ok(())
 }
 
-/// Adds a number.
+/// Appends a number.
 pub fn push_number(text: &mut Vec<u8>, number: usize) -> Result<(), AllocError>
     ensures added { OnOk result (text.new.items ≡ text.old.items ++ decimal number) }
 {
     text.extend_from_slice(Buffer::new().format(number).as_bytes())
 }
 
-/// Adds an integer.
+/// Appends an integer.
 fn push_integer(text: &mut Vec<u8>, value: i32) -> Result<(), AllocError>
     ensures added { OnOk result (text.new.items ≡ text.old.items ++ signed_decimal value) }
 {
     text.extend_from_slice(Buffer::new().format(value).as_bytes())
 }
 
-/// Adds the label of an application: its name as it is printed, and `()` where that is empty.
+/// Appends the label of an application: its name as it is printed, or `()` for the empty plain
+/// name.
 fn push_name<B: TermBank>(
     alloc: Global,
     bank: &B,
@@ -72,7 +73,7 @@ fn push_name<B: TermBank>(
     }
 }
 
-/// Adds the label of a part.
+/// Appends the label of a part.
 fn push_label<B: TermBank>(
     alloc: Global,
     bank: &B,
@@ -92,7 +93,7 @@ fn push_label<B: TermBank>(
     }
 }
 
-/// Adds the line of the node of a part.
+/// Appends the line of the node of a part.
 pub fn push_node<B: TermBank>(
     alloc: Global,
     bank: &B,

@@ -1,13 +1,13 @@
-// The laws of looking, over the definitions alone.
+//! Properties of both forms that follow from the definitions alone.
 ghost use Rattle.rx_look.specs.Law.{LaidSpells, LinksAreOwnParts, OrderListsParts};
 
-/// The text of a tree over several lines spells that tree.
+/// The text of a tree over several lines spells this tree.
 pub fn laid_text()
     ensures spells { LaidSpells }
 {}
 
-/// A graph of all its nodes has one for each different part, and no other; the edges from a node
-/// lead to its own parts.
+/// A whole graph has one node for each different part and no other. The edges from a node lead to
+/// its own parts.
 pub fn graph_nodes()
     ensures parts { OrderListsParts }
     ensures links { LinksAreOwnParts }

@@ -1,4 +1,4 @@
-//! What is left to be written of a text over several lines.
+//! The stack of jobs of a text over several lines.
 
 ghost use Rattle.std.specs.Prelude.{◌≡◌, ◌+◌, ◌≤◌, [], IfOk, IsOkUnless, OnOk, vec_len};
 ghost use Rattle.rx_look.specs.Layout.{Adds, Deepens, IsBlank, enclosing, room};
@@ -7,10 +7,10 @@ use rx_term::{Symbol, Term};
 use rx_text::WriteFault;
 use std::alloc::Global;
 
-/// As many blanks as a level may have.
+/// The greatest number of blanks of a level.
 const BLANKS: [u8; 255] = [b' '; 255];
 
-/// What is written at once.
+/// A part of the text that is written at once.
 #[derive(Clone, Copy, Drop)]
 pub enum Atom {
     /// One byte.
@@ -26,29 +26,29 @@ pub enum Atom {
 /// A part of the text.
 #[derive(Clone, Copy, Drop)]
 pub enum Piece {
-    /// What is written at once.
+    /// A part that is written at once.
     Atom(Atom),
     /// A tree.
     Tree(Term),
-    /// The annotations of a tree, in braces, where it has any.
+    /// The annotations of a tree in braces, if it has some.
     Notes(Term),
-    /// The items of a list, with commas between.
+    /// The items of a list, separated by commas.
     Items(Term),
-    /// The items of a list, each behind a comma.
+    /// The items of a list, each after a comma.
     Others(Term),
 }
 
 /// A part of the text that is still to be written.
 #[derive(Clone, Copy, Drop)]
 pub struct Job {
-    /// What it is.
+    /// The part.
     pub piece: Piece,
-    /// How many blanks its lines begin with.
+    /// The number of blanks at the start of its lines.
     pub margin: usize,
 }
 
 impl Job {
-    /// What is written at once, on a line that begins with so many blanks.
+    /// Creates the job of an atom on a line that starts with `margin` blanks.
     pub fn atom(atom: Atom, margin: usize) -> Job
         ensures { result ≡ record { piece = Piece.Atom atom; margin = margin } }
     {
@@ -59,23 +59,23 @@ impl Job {
     }
 }
 
-/// The mark before a piece, and the one behind it.
+/// The marks before and after a piece.
 #[derive(Clone, Copy, Drop)]
 pub struct Marks(pub u8, pub u8);
 
-/// What is left to be written.
+/// The jobs that are left, and the blanks for their lines.
 #[derive(Drop)]
 pub struct Layout {
-    /// How many blanks a level has.
+    /// The number of blanks for each level.
     pub indent: u8,
-    /// As many blanks as any line that is left begins with, or more.
+    /// At least as many blanks as any remaining line starts with.
     pub blanks: Vec<u8>,
-    /// What is left, the last job first.
+    /// The jobs that are left. The last one is done first.
     pub jobs: Vec<Job>,
 }
 
 impl Layout {
-    /// Nothing is left.
+    /// Creates a layout without jobs.
     pub fn new(alloc: Global, indent: u8) -> Layout
         ensures indent { result.indent ≡ indent }
         ensures blank { IsBlank result }
@@ -88,7 +88,7 @@ impl Layout {
         }
     }
 
-    /// Leaves jobs, of which the last is done first.
+    /// Pushes jobs. The last one is done first.
     pub fn leave(&mut self, jobs: &[Job]) -> Result<(), WriteFault>
         requires { IsBlank self.old }
         ensures left { OnOk result (Adds jobs.now self.old self.new) }
@@ -100,7 +100,7 @@ impl Layout {
         }
     }
 
-    /// How many blanks begin the lines of the next level, for which there are enough then.
+    /// Returns the number of blanks of the next level, and makes enough blanks for it.
     fn deepen(&mut self, margin: usize) -> Result<usize, WriteFault>
         requires within { margin ≤ room self.old }
         requires blank { IsBlank self.old }
@@ -117,7 +117,7 @@ impl Layout {
         }
     }
 
-    /// Leaves a piece on lines of its own between two marks.
+    /// Pushes a piece on lines of its own between two marks.
     pub fn enclose(&mut self, marks: Marks, piece: Piece, margin: usize) -> Result<(), WriteFault>
         requires within { margin ≤ room self.old }
         requires blank { IsBlank self.old }

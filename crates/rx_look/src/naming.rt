@@ -2,13 +2,13 @@
 
 ghost use Rattle.std.specs.Prelude.{◌≡◌, ◌++◌, true, IfOk, OnErr, OnOk};
 ghost use Rattle.rx_text.specs.Canon.{name_text, octal_text, quoted_byte};
-ghost use Rattle.rx_text.specs.Output.{IsSameOutput, IsWritable, TellsFault, Writes, WritesFront};
+ghost use Rattle.rx_text.specs.Output.{ReportsFault, Writes, WritesFront};
 
 use rx_text::{Output, WriteFault};
 use std::alloc::{AllocError, Global};
 use std::io::Write;
 
-/// Adds one byte of a quoted name.
+/// Appends one byte of a quoted name, escaped if necessary.
 fn push_quoted_byte(text: &mut Vec<u8>, byte: u8) -> Result<(), AllocError>
     ensures added { OnOk result (text.new.items ≡ text.old.items ++ quoted_byte byte) }
 {
@@ -27,7 +27,7 @@ fn push_quoted_byte(text: &mut Vec<u8>, byte: u8) -> Result<(), AllocError>
     }
 }
 
-/// Adds a backslash and three octal digits.
+/// Appends a backslash and three octal digits.
 fn push_octal(text: &mut Vec<u8>, byte: u8) -> Result<(), AllocError>
     ensures added { OnOk result (text.new.items ≡ text.old.items ++ octal_text byte) }
 {
@@ -39,7 +39,7 @@ fn push_octal(text: &mut Vec<u8>, byte: u8) -> Result<(), AllocError>
     ])
 }
 
-/// A name between quotes.
+/// Returns a name between quotes.
 pub fn quoted_name(alloc: Global, name: &[u8]) -> Result<Vec<u8>, AllocError>
     ensures quoted { IfOk result (λ text. text.items ≡ name_text name.now true) }
 {
@@ -51,19 +51,17 @@ pub fn quoted_name(alloc: Global, name: &[u8]) -> Result<Vec<u8>, AllocError>
     Ok(text)
 }
 
-/// Writes a name, between quotes where it is quoted.
+/// Writes a name, between quotes if it is quoted.
 pub fn write_name<W: Write>(
     alloc: Global,
     name: &[u8],
     quoted: bool,
     out: &mut Output<'_, W>,
 ) -> Result<(), WriteFault>
-    requires { IsWritable out.old }
     ensures written { OnOk result (Writes W.contents out.old out.new (name_text name.now quoted)) }
     ensures front { OnErr result (WritesFront W.contents out.old out.new
         (name_text name.now quoted)) }
-    ensures same { IsSameOutput out.old out.new }
-    ensures cause { TellsFault out.new result }
+    ensures reports { ReportsFault out.old out.new result }
 {
     if !quoted {
         return Ok(out.put(name)?);

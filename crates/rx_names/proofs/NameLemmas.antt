@@ -31,7 +31,7 @@ symbols-at ws es i = elim (lt_or_le i (length es)) [
   | inr le ↦ past-tabulate (length es) i (signature_at ws es) le ∙ sym (ap (option_and_then (signature_in ws)) (slice_get_past es i le))
 ]
 
--- what a symbol stands for is that of its entry's word
+-- what a symbol represents is that of its entry's word
 pub record Stands (ws : List (List ℕ)) (es : List Entry) (s : ℕ) (g : Signature) : Type 0 where
   pub entry : Entry
   pub at : slice_get es s ≡ Some entry
@@ -55,7 +55,7 @@ stands ws es s g e = by_entry (slice_get es s) refl (sym (symbols-at ws es s) �
 same_entry : (e f : Entry) → e.word ≡ f.word → e.quoted ≡ f.quoted → e.arity ≡ f.arity → e ≡ f
 same_entry e f p q r i = record { word = p i; quoted = q i; arity = r i }
 
--- no two symbols stand for the same, and each name is valid
+-- no two symbols represent the same, and each name is valid
 pub table : (n : Names) → IsTable (λ s. map.get (symbols_of n) s)
 table n = record {
   apart = λ s t g a b. (
@@ -74,7 +74,7 @@ tabulate-same : {X : Type 0} (len : ℕ) (f g : ℕ → Option X) → ((i : ℕ)
 tabulate-same zero f g each = refl
 tabulate-same (suc k) f g each = λ i. put_some (tabulate-same k f g each i) k (each k i)
 
--- more words: each entry stands for the same
+-- more words: each entry represents the same
 module _ (ws vs : List (List ℕ)) (es : List Entry) (kept : KeepsPlaces ws vs) (allowed : AllAllowed ws es) where
   pub kept-allowed : AllAllowed vs es
   kept-allowed i e at = by_word (slice_get ws e.word) refl (allowed i e at) where
@@ -132,7 +132,7 @@ pub allowed_there : (o : Option (List ℕ)) (quoted : Bool) → is_allowed_word 
 allowed_there None quoted h = cc
 allowed_there (Some w) quoted h = refl
 
--- a symbol that stands for a signature already is the one that taking it in gives
+-- a symbol that represents a signature already is the one that taking it in gives
 pub Interns-there : (n : Names) (s : Symbol) (g : Signature) → map.get (symbols_of n) s.0 ≡ Some g → Interns (symbols_of n) (symbols_of n) g s
 Interns-there n s g here = record {
   added = here;
@@ -231,7 +231,7 @@ pub found-or-lacks : (n : Names) (g : Signature) (e : Entry) → slice_get (word
 found-or-lacks n g e word quoted arity None m = lacks-entry n g e word quoted arity m
 found-or-lacks n g e word quoted arity (Some s) m = has-entry n g e word quoted arity s m
 
--- taking in a name keeps what each symbol stands for
+-- taking in a name keeps what each symbol represents
 pub kept-Interns : {old new : map.FinMap nat_cmp Signature} {g : Signature} {s : Symbol} → Interns old new g s → (t : ℕ) (d : Signature)
     → map.get old t ≡ Some d → map.get new t ≡ Some d
 kept-Interns {old = old} {s = s} m t d h = elim (eqb_tells t s.0) [

@@ -1,4 +1,4 @@
--- Lists in which each thing stands at one place, with one thing more.
+-- Lists in which each thing is at one place, with one thing more.
 use Rattle.std.proofs.Common.{ℕ, zero, suc, ◌≡◌, ◌≢◌, ◌⊎◌, Bool, true, false, ◌||◌, List, [], ◌∷◌, ◌++◌, length, map, Option}
 use Rattle.std.proofs.Common.{Some, None, is_some, refl, sym, ap, ◌∙◌, subst, inl, inr, arith, slice_get, get_or, nat_lt}
 use Rattle.std.specs.Prelude.{Decides, MatchOption, if◌then◌else◌, IfOk, OnErr, Result, Ok, Err}
@@ -12,7 +12,7 @@ push-kept [] x i y e = cc
 push-kept (z ∷ zs) x zero y e = e
 push-kept (z ∷ zs) x (suc i) y e = push-kept zs x i y e
 
--- what stands in the longer list stood before, or is the new thing at the end
+-- what is in the longer list was before, or is the new thing at the end
 pub push-cases : {X : Type 0} (xs : List X) (x : X) (i : ℕ) (y : X) → slice_get (xs ++ x ∷ []) i ≡ Some y
     → (slice_get xs i ≡ Some y) ⊎ ((i ≡ length xs) × (x ≡ y))
 push-cases [] x zero y e = inr (refl, cc)
@@ -97,7 +97,7 @@ module _ {X Y : Type 0} (f : X → Y) (w : Y) (p : X → Bool) (exact : (x : X) 
   searched xs None e s = none-found xs (sym s)
   searched xs (Some i) e s = found-at xs i (sym e)
 
--- the list is as it was, or has at its end a thing that stood nowhere
+-- the list is as it was, or has at its end a thing that was nowhere
 abbrev pub Placed : {X : Type 0} → List X → List X → X → Type 0
 Placed xs new x = (new ≡ xs) ⊎ (((i : ℕ) → slice_get xs i ≢ Some x) × (new ≡ xs ++ x ∷ []))
 

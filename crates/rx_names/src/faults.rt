@@ -1,11 +1,11 @@
-//! Why a table of names refuses a name.
+//! The error type of a symbol table.
 
 use thiserror::Error;
 
-/// Why a name was not taken in.
+/// The error of adding a symbol: an allocation failed.
 #[derive(Clone, Copy, PartialEq, Eq, Debug, Drop, Error)]
 pub enum NamesFault {
-    /// Memory ran out.
+    /// An allocation failed.
     #[error("out of memory")]
     Memory,
 }

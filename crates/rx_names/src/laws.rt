@@ -1,10 +1,10 @@
-// The law of every table of names.
+//! The property of every symbol table. The function does nothing; its contract states the property.
 
 ghost use Rattle.rx_names.specs.Names.{symbols_of, IsOneToOne};
 
 use crate::Names;
 
-/// A name, its flag and a number of arguments have one symbol.
+/// Each name, flag and number of arguments has at most one symbol.
 pub fn one_symbol(names: &Names)
     ensures { IsOneToOne (symbols_of names.now) }
 {}

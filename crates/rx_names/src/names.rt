@@ -1,4 +1,4 @@
-//! The table of names: a symbol for each name, quoted flag and number of arguments.
+//! The symbol table: a symbol for each name, quoted flag and number of arguments.
 
 ghost use Rattle.std.specs.Prelude.{◌≡◌, ◌≢◌, ◌<◌, ℕ, MatchOption, IsSome, IsTrue, IfOk, Some};
 ghost use Rattle.std.specs.Prelude.{length, slice_get};
@@ -12,7 +12,7 @@ use indexmap::IndexSet;
 use rx_term::Symbol;
 use std::alloc::Global;
 
-/// A symbol's name, by its place among the words, with its flag and its number of arguments.
+/// A symbol: the index of its name among the words, its flag, and its number of arguments.
 #[derive(Clone, Copy, PartialEq, Eq, Hash)]
 struct Entry {
     word: usize,
@@ -20,10 +20,12 @@ struct Entry {
     arity: u32,
 }
 
-/// How many symbols are remembered.
+/// The number of recent symbols that are remembered, by the last byte of the name, its length and
+/// the number of arguments. Words and entries are searched only if another symbol is remembered
+/// there.
 const RECENT: usize = 64;
 
-/// Where the symbol of a name and a number of arguments is remembered.
+/// Returns the index at which the symbol of a name and a number of arguments is remembered.
 fn home(name: &[u8], arity: u32) -> usize
     ensures { result < 64 }
 {
@@ -34,7 +36,7 @@ fn home(name: &[u8], arity: u32) -> usize
     (last ^ name.len().wrapping_mul(8) ^ (arity as usize).wrapping_mul(32)) % RECENT
 }
 
-/// The entry at a place.
+/// Returns the entry with this index.
 fn entry_at(entries: &[Entry], place: usize) -> Entry
     requires { place < length entries.now }
     ensures { slice_get entries.now place ≡ Some result }
@@ -42,7 +44,7 @@ fn entry_at(entries: &[Entry], place: usize) -> Entry
     entries[place]
 }
 
-/// Names and their symbols, which stay until the end; and the places of some that were asked for.
+/// A symbol table. Symbols are never removed. It remembers the indices of some recent symbols.
 #[derive(Drop)]
 pub struct Names {
     words: Words,
@@ -57,7 +59,7 @@ impl Names {
     ghost use Rattle.rx_term.specs.Name.{IsAllowed};
     ghost use Rattle.rx_names.specs.Names.{symbols_of, FindsOrLacks, InternsOrRefuses};
 
-    /// No names.
+    /// Returns an empty table. The only error is out of memory.
     pub fn new(alloc: Global) -> Result<Names, NamesFault>
         ensures { IfOk result (λ n. symbols_of n ≡ empty) }
     {
@@ -68,7 +70,8 @@ impl Names {
         })
     }
 
-    /// The symbol, where it is there.
+    /// Returns the symbol with these parts, or `None` if there is none. Takes expected time linear
+    /// in the length of the name.
     pub fn find(&self, name: &[u8], quoted: bool, arity: u32) -> Option<Symbol>
         ensures { FindsOrLacks (symbols_of self.now)
             (record { name = name.now; quoted = quoted; arity = arity }) result }
@@ -83,7 +86,7 @@ impl Names {
         }
     }
 
-    /// The symbol of an entry, where it is there.
+    /// Returns the symbol of an entry, or `None` if there is none.
     fn find_entry(&self, entry: Entry) -> Option<Symbol>
         ensures { MatchOption result
             ((i : ℕ) → slice_get self.now.entries.keys i ≢ Some entry)
@@ -95,7 +98,7 @@ impl Names {
         }
     }
 
-    /// The name, the flag and the number of arguments of a symbol.
+    /// Returns the name, the flag and the number of arguments of a symbol. Takes constant time.
     pub fn get(&self, symbol: Symbol) -> (&[u8], bool, u32)
         requires { IsSome (get (symbols_of self.now) symbol.0) }
         ensures { get (symbols_of self.now) symbol.0 ≡
@@ -105,7 +108,7 @@ impl Names {
         (self.words.get(entry.word), entry.quoted, entry.arity)
     }
 
-    /// Whether the symbol with this number is there, and stands for these.
+    /// Returns whether the symbol with this number exists and has these parts.
     fn is_symbol(&self, place: usize, name: &[u8], quoted: bool, arity: u32) -> bool
         ensures { IsTrue result → get (symbols_of self.now) place
             ≡ Some (record { name = name.now; quoted = quoted; arity = arity }) }
@@ -124,7 +127,7 @@ impl Names {
         self.words.get(entry.word) == name
     }
 
-    /// The symbol, looked for among the entries.
+    /// Returns the symbol with these parts after a search in the entries; adds it if there is none.
     fn intern_entry(&mut self, name: &[u8], quoted: bool, arity: u32) -> Result<Symbol, NamesFault>
         requires { IsAllowed name.now quoted }
         ensures { InternsOrRefuses (symbols_of self.old) (symbols_of self.new)
@@ -145,7 +148,9 @@ impl Names {
         }
     }
 
-    /// The symbol, made where it is not there.
+    /// Returns the symbol with these parts, and adds it if there is none. The name has to be plain,
+    /// quoted or empty. The only error is out of memory; nothing changes then. Takes expected time
+    /// linear in the length of the name.
     pub fn intern(&mut self, name: &[u8], quoted: bool, arity: u32) -> Result<Symbol, NamesFault>
         requires { IsAllowed name.now quoted }
         ensures { InternsOrRefuses (symbols_of self.old) (symbols_of self.new)

@@ -1,4 +1,4 @@
-//! Names without their flags, each kept once, in order of first sight.
+//! Names without their flags, each stored once, in the order in which they were added.
 
 ghost use Rattle.std.specs.Prelude.{◌≡◌, ◌≢◌, ◌<◌, ℕ, true, IfOk, IsSome, Some, MatchOption, map};
 ghost use Rattle.std.specs.Prelude.{nat_lt, slice_get, length};
@@ -8,7 +8,7 @@ ghost use Rattle.rx_names.specs.Places.{AreApart, AllBytes};
 use indexmap::IndexSet;
 use std::alloc::{AllocError, Global};
 
-/// Byte strings, no two alike.
+/// Byte strings, no two of them equal.
 #[derive(Drop)]
 pub struct Words {
     alloc: Global,
@@ -17,7 +17,7 @@ pub struct Words {
     ghost bytes: { AllBytes (map (λ v. v.items) stored.keys) },
 }
 
-/// A copy of some bytes.
+/// Returns a copy of these bytes.
 fn copy_of(alloc: Global, bytes: &[u8]) -> Result<Vec<u8>, AllocError>
     ensures same { IfOk result (λ v. v.items ≡ bytes.now) }
     ensures fit { IfOk result (λ v. list_all (λ b. nat_lt b 256) v.items ≡ true) }
@@ -34,7 +34,7 @@ impl Words {
     ghost use Rattle.rx_names.specs.Places.{KeepsPlaces};
     ghost use Rattle.rx_names.specs.Words.{words_of};
 
-    /// No words.
+    /// Returns an empty list of words.
     pub fn new(alloc: Global) -> Words
         ensures { words_of result ≡ [] }
     {
@@ -44,7 +44,7 @@ impl Words {
         }
     }
 
-    /// The place of a word.
+    /// Returns the index of a word, or `None` if it is not there.
     pub fn find(&self, word: &[u8]) -> Option<usize>
         ensures { MatchOption result
             ((i : ℕ) → slice_get (words_of self.now) i ≢ Some word.now)
@@ -53,7 +53,7 @@ impl Words {
         self.stored.get_index_of(word)
     }
 
-    /// The word at a place.
+    /// Returns the word with this index.
     pub fn get(&self, place: usize) -> &[u8]
         requires { IsSome (slice_get (words_of self.now) place) }
         ensures { slice_get (words_of self.now) place ≡ Some result.now }
@@ -61,7 +61,7 @@ impl Words {
         self.stored.as_slice()[place].as_slice()
     }
 
-    /// The place of a word, which is put last where it is not there.
+    /// Returns the index of a word, which is appended if it is not there.
     pub fn intern(&mut self, word: &[u8]) -> Result<usize, AllocError>
         ensures stands { IfOk result (λ i. slice_get (words_of self.new) i ≡ Some word.now) }
         ensures kept { KeepsPlaces (words_of self.old) (words_of self.new) }

@@ -1,4 +1,4 @@
--- What a match adds to a bank: `[]`, and lists of the bank without their annotations.
+-- What a match adds to a store: `[]`, and lists of the store without their annotations.
 use Rattle.std.proofs.Common.{◌≡◌, refl, sym, ap, ◌∙◌, subst, inl, inr}
 use Rattle.rx_term.specs.Tree.{Tree, Trees, none, Items, list_of}
 use Rattle.rx_term.specs.Store.{Store}

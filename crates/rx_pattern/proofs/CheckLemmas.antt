@@ -117,7 +117,7 @@ weight_of-each w (r ∷ rs) [] h = absurd h
 
 -- ---- the loop
 
--- what is known of the tree, but for the trees on the stack
+-- what is known of the tree, except for the trees on the stack
 pub record Looking (w : Store) (p : Tree) (plain : Bool) (stack : List Term) : Type 0 where
   pub trees : List Tree
   pub stands : OnStack (HasTree w) stack trees

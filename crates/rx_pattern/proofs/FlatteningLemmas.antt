@@ -18,7 +18,7 @@ use Rattle.rx_pattern.specs.declared.flatten.Job.TheVariants as job
 use Rattle.rx_pattern.proofs.StackLemmas.{pop, push-reverse}
 use Rattle.rx_pattern.proofs.SpellingLemmas.{spell}
 
--- the first step, and those of what is behind it
+-- the first step, and those of what is after it
 spell_items : (p : Tree) (ps : Trees) (vs : List Piece) (b : Bool) → is_rest p ps ≡ b
     → spell (Several (more p ps) ∷ vs) ≡ (opens (Several (more p ps))).0 ∷ spell ((opens (Several (more p ps))).1 ++ vs)
 spell_items p ps vs true e = rw e refl

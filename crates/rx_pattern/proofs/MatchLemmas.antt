@@ -259,7 +259,7 @@ ended w steps whole stack out e h =
 pub not_matched : (w : Store) (whole : Option (List Tree)) (out : List Term) → whole ≡ None → Answers w whole out false
 not_matched w whole out e = rw e tt
 
--- the step at a place, and those behind it
+-- the step at a place, and those after it
 pub next_step : (nodes : List Node) (i : ℕ) (n : Node) → i < length nodes → n ≡ get_or nodes i n
     → map step_of (drop i nodes) ≡ step_of n ∷ map step_of (drop (i + 1) nodes)
 next_step nodes i n lt e = ap (map step_of) (rw add-one (drop-cons nodes i n lt) ∙ ap (λ (m : Node). m ∷ drop (i + 1) nodes) (sym e))

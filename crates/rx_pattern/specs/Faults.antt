@@ -1,4 +1,4 @@
--- How the faults of patterns pass on what a bank refuses.
+-- Errors of a term store, as errors of patterns.
 use Rattle.std.specs.Prelude.{◌≡◌}
 use Rattle.rx_term.specs.Store.{Store, cells}
 use Rattle.rx_term.specs.declared.faults.BankFault.{BankFault}
@@ -8,29 +8,32 @@ use Rattle.rx_pattern.specs.declared.faults.PatternFault.TheVariants as pattern
 use Rattle.rx_pattern.specs.declared.faults.MakeFault.{MakeFault}
 use Rattle.rx_pattern.specs.declared.faults.MakeFault.TheVariants as make
 
+-- pattern_fault e: the error of a match
 abbrev pub pattern_fault : BankFault → PatternFault
 pattern_fault bank.Memory = pattern.Memory
 pattern_fault bank.Full = pattern.Full
 
+-- make_fault e: the error of making a term
 abbrev pub make_fault : BankFault → MakeFault
 make_fault bank.Memory = make.Memory
 make_fault bank.Full = make.Full
 
--- a bank that is full has as many cells as it may have; a match refuses for nothing else
+-- IsMatchRefusal w e: a match fails only with Memory, or with Full if the store is full
 abbrev pub IsMatchRefusal : Store → PatternFault → Type 0
 IsMatchRefusal w pattern.Unknown = ⊥
 IsMatchRefusal w pattern.Annotated = ⊥
 IsMatchRefusal w pattern.Memory = Unit {0}
 IsMatchRefusal w pattern.Full = cells w ≡ w.cap
 
--- the terms do not go into the placeholders
+-- IsOfTerms e: the terms do not fit the placeholders
 abbrev pub IsOfTerms : MakeFault → Type 0
 IsOfTerms make.Count = Unit {0}
 IsOfTerms (make.Kind at) = Unit {0}
 IsOfTerms make.Memory = ⊥
 IsOfTerms make.Full = ⊥
 
--- the same of what is made of nodes, once the terms fit
+-- IsMakeRefusal w e: if the terms fit, making fails only with Memory, or with Full if the store is
+-- full
 abbrev pub IsMakeRefusal : Store → MakeFault → Type 0
 IsMakeRefusal w make.Count = ⊥
 IsMakeRefusal w (make.Kind at) = ⊥

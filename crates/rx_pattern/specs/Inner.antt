@@ -1,3 +1,3 @@
--- What the proofs speak of inside this crate: no public contract cites it.
+-- Definitions that only proofs and contracts inside this crate use.
 pub mod Jobs
 pub mod PatternView

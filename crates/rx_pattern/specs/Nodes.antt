@@ -1,4 +1,4 @@
--- The steps that the nodes of a pattern are.
+-- The steps that the nodes of a pattern represent.
 use Rattle.std.specs.Prelude.{◌≡◌, List, [], map, Some, IsTrue}
 use Rattle.rx_term.specs.Tree.{Tree, is_tree}
 use Rattle.rx_pattern.specs.Pattern.{is_pattern, PlaceholderKind, AnyTerm, AnyInt, AnyStr, AnyAppl}
@@ -10,6 +10,7 @@ use Rattle.rx_pattern.specs.declared.nodes.Class.TheVariants as class
 use Rattle.rx_pattern.specs.declared.nodes.Node.{Node}
 use Rattle.rx_pattern.specs.declared.nodes.Node.TheVariants as node
 
+-- kind_of_class c: the kind of a placeholder
 abbrev pub kind_of_class : Class → PlaceholderKind
 kind_of_class class.Term = AnyTerm
 kind_of_class class.Int = AnyInt
@@ -18,6 +19,7 @@ kind_of_class class.Appl = AnyAppl
 kind_of_class class.Placeholder = AnyPlaceholder
 kind_of_class class.List = AnyList
 
+-- step_of node: the step of a node
 abbrev pub step_of : Node → Step
 step_of (node.Integer z) = Number z
 step_of (node.Application name) = Named name.bytes.items name.quoted
@@ -27,12 +29,12 @@ step_of node.End = End
 step_of node.Item = Item
 step_of node.Rest = Rest
 
--- the tree of nodes
+-- tree_of_nodes nodes: the tree that the nodes spell
 abbrev pub tree_of_nodes : List Node → Tree
 tree_of_nodes nodes = tree_of_steps (map step_of nodes)
 
--- nodes that are those of their tree, which is a pattern whose integers fit and whose names are
--- names
+-- AreNodes nodes: the nodes are those of their tree, which is a pattern; its integers fit and its
+-- names are names
 pub record AreNodes (nodes : List Node) : Type 0 where
   pub code : map step_of nodes ≡ code (tree_of_nodes nodes) []
   pub pattern : IsTrue (is_pattern (tree_of_nodes nodes))

@@ -1,4 +1,4 @@
-//! Whether a term is a pattern.
+//! The check whether a term is a pattern.
 
 ghost use Rattle.std.specs.Prelude.{◌≡◌, IsSome, IfSome, OnOk, IfErr, None};
 ghost use Rattle.rx_term.specs.Tree.{Tree};
@@ -11,7 +11,7 @@ use crate::words::class_of;
 use rx_term::{Kind, Term, TermBank};
 use std::alloc::{AllocError, Global};
 
-/// Whether the tree, if it is a placeholder, is one of the six.
+/// Returns false if the tree is a placeholder that is not one of the six.
 fn is_known<B: TermBank>(bank: &B, t: Term) -> bool
     requires { IsSome (tree_at (B.store bank.now) t) }
     ensures { (u : Tree) → tree_at (B.store bank.now) t ≡ Some u → result ≡ own_known u }
@@ -22,7 +22,7 @@ fn is_known<B: TermBank>(bank: &B, t: Term) -> bool
     }
 }
 
-/// Whether the tree, if it is a placeholder, has no annotations.
+/// Returns false if the tree is a placeholder with annotations.
 fn is_plain<B: TermBank>(bank: &B, t: Term) -> bool
     requires { IsSome (tree_at (B.store bank.now) t) }
     ensures { (u : Tree) → tree_at (B.store bank.now) t ≡ Some u → result ≡ own_plain u }
@@ -33,7 +33,7 @@ fn is_plain<B: TermBank>(bank: &B, t: Term) -> bool
     }
 }
 
-/// Pushes what is looked at below a tree.
+/// Pushes the parts of a tree that have to be checked as well.
 fn push_below<B: TermBank>(bank: &B, t: Term, stack: &mut Vec<Term>) -> Result<(), AllocError>
     requires { IsSome (tree_at (B.store bank.now) t) }
     ensures { OnOk result ((u : Tree) → tree_at (B.store bank.now) t ≡ Some u
@@ -53,7 +53,7 @@ fn push_below<B: TermBank>(bank: &B, t: Term, stack: &mut Vec<Term>) -> Result<(
     Ok(())
 }
 
-/// Refuses what is no pattern.
+/// Returns an error if the term is not a pattern.
 pub fn check<B: TermBank>(alloc: Global, bank: &B, t: Term) -> Result<(), PatternFault>
     requires { IsSome (tree_at (B.store bank.now) t) }
     ensures fit { OnOk result

@@ -1,4 +1,4 @@
-//! Why there is no pattern, no answer or no term.
+//! The error types of patterns.
 
 ghost use Rattle.std.specs.Prelude.{◌≡◌};
 
@@ -6,7 +6,7 @@ use rx_term::BankFault;
 use std::alloc::{AllocError, AllocFailed};
 use thiserror::Error;
 
-/// Why a term is no pattern, or was not matched.
+/// The error of [`crate::Pattern::of`] and of matching.
 #[derive(Clone, Copy, PartialEq, Eq, Debug, Drop, Error)]
 pub enum PatternFault {
     /// A placeholder is not one of the six.
@@ -15,10 +15,10 @@ pub enum PatternFault {
     /// All placeholders are known, and one has annotations.
     #[error("a placeholder with annotations")]
     Annotated,
-    /// Memory ran out.
+    /// An allocation failed.
     #[error("out of memory")]
     Memory,
-    /// The bank has as many cells as it may have.
+    /// The store is full.
     #[error("out of cells")]
     Full,
 }
@@ -56,19 +56,19 @@ impl From<BankFault> for PatternFault {
     }
 }
 
-/// Why no term was made.
+/// The error of [`crate::Pattern::make`].
 #[derive(Clone, Copy, PartialEq, Eq, Debug, Drop, Error)]
 pub enum MakeFault {
-    /// There are not as many terms as placeholders.
+    /// The number of terms is not the number of placeholders.
     #[error("a wrong number of terms")]
     Count,
-    /// The term at this place, from 0, is the first that its placeholder does not take.
+    /// The term at index `at`, from 0, is the first one that does not fit its placeholder.
     #[error("the term at {at} is of a wrong kind")]
     Kind { at: usize },
-    /// Memory ran out.
+    /// An allocation failed.
     #[error("out of memory")]
     Memory,
-    /// The bank has as many cells as it may have.
+    /// The store is full.
     #[error("out of cells")]
     Full,
 }

@@ -1,4 +1,4 @@
-//! Making a term of the nodes of a pattern.
+//! Making a term from the nodes of a pattern.
 
 ghost use Rattle.std.specs.Prelude.{◌≡◌, ◌<◌, ◌^◌, ◌∷◌, List, map, length, IsSome, IfOk, IfErr};
 ghost use Rattle.std.specs.Prelude.{OnOk, Some, None};
@@ -23,14 +23,14 @@ use crate::words::fits;
 use rx_term::{BankFault, Term, TermBank};
 use std::alloc::Global;
 
-/// Whether the node takes a term.
+/// Returns whether the node is a placeholder or a rest of a list, which takes a term.
 fn is_blank(node: &Node) -> bool
     ensures { result ≡ is_blank_step (step_of node.now) }
 {
     matches!(node, Node::Placeholder(_) | Node::Rest)
 }
 
-/// How many terms the nodes take.
+/// Returns the number of terms that the nodes take.
 pub fn count_blanks(nodes: &[Node]) -> usize
     ensures { result ≡ length (blanks_of_steps (map step_of nodes.now)) }
 {
@@ -43,7 +43,7 @@ pub fn count_blanks(nodes: &[Node]) -> usize
     blanks
 }
 
-/// Whether a tree is a list without annotations.
+/// Returns whether a tree is a list without annotations.
 fn is_plain_list<B: TermBank>(bank: &B, t: Term) -> bool
     requires { IsSome (tree_at (B.store bank.now) t) }
     ensures { (u : Tree) → tree_at (B.store bank.now) t ≡ Some u → result ≡ takes_rest RestBlank u }
@@ -51,7 +51,7 @@ fn is_plain_list<B: TermBank>(bank: &B, t: Term) -> bool
     fits(bank, Class::List, t) && bank.anns(t).is_none()
 }
 
-/// Whether a node takes a term, if it takes any.
+/// Returns whether a term fits the node, if the node takes one.
 fn takes<B: TermBank>(bank: &B, node: &Node, t: Term) -> bool
     requires { IsSome (tree_at (B.store bank.now) t) }
     ensures { (u : Tree) → tree_at (B.store bank.now) t ≡ Some u
@@ -64,7 +64,7 @@ fn takes<B: TermBank>(bank: &B, node: &Node, t: Term) -> bool
     }
 }
 
-/// Why the terms do not go into the nodes, if they do not.
+/// Returns the reason why these terms do not fit the nodes, or `None` if they fit.
 pub fn misfit<B: TermBank>(nodes: &[Node], bank: &B, args: &[Term]) -> Option<MakeFault>
     requires { AllHeld (B.store bank.now) args.now }
     ensures { (bs : List Tree) → HaveTrees (B.store bank.now) args.now bs
@@ -85,7 +85,7 @@ pub fn misfit<B: TermBank>(nodes: &[Node], bank: &B, args: &[Term]) -> Option<Ma
     None
 }
 
-/// The application of a name to the items of a list.
+/// Makes the application of a name to the items of a list.
 fn apply<B: TermBank>(bank: &mut B, name: &Name, args: Option<Term>) -> Result<Term, BankFault>
     requires list { (ts : Trees) × IsListed (B.store bank.old) args ts }
     requires allowed { IsAllowed name.now.bytes.items name.now.quoted }
@@ -100,7 +100,7 @@ fn apply<B: TermBank>(bank: &mut B, name: &Name, args: Option<Term>) -> Result<T
     bank.appl(symbol, args)
 }
 
-/// Pushes the tree with the newest of what was made as its annotations.
+/// Pushes the tree with the topmost piece as its annotations.
 fn push_noted<B: TermBank>(
     bank: &mut B,
     t: Term,
@@ -122,7 +122,7 @@ fn push_noted<B: TermBank>(
     Ok(())
 }
 
-/// Pushes the integer.
+/// Pushes the integer, with the topmost piece as its annotations.
 fn push_integer<B: TermBank>(
     bank: &mut B,
     value: i32,
@@ -140,7 +140,7 @@ fn push_integer<B: TermBank>(
     push_noted(bank, t, made)
 }
 
-/// Pushes the application of a name to the newest of what was made.
+/// Pushes the application of a name to the topmost piece.
 fn push_application<B: TermBank>(
     bank: &mut B,
     name: &Name,
@@ -161,7 +161,7 @@ fn push_application<B: TermBank>(
     push_noted(bank, t, made)
 }
 
-/// Pushes the list of the newest of what was made.
+/// Pushes the list of the items of the topmost piece.
 fn push_list<B: TermBank>(bank: &mut B, made: &mut Vec<Option<Term>>) -> Result<(), MakeFault>
     requires { (items : Trees) × ((anns : Trees) × ((ps : List Piece)
         × OnStack (Stands (B.store bank.old)) made.old.items (Several items ∷ Several anns ∷ ps))) }
@@ -176,7 +176,7 @@ fn push_list<B: TermBank>(bank: &mut B, made: &mut Vec<Option<Term>>) -> Result<
     push_noted(bank, t, made)
 }
 
-/// Pushes the newest tree in front of the list below it.
+/// Puts the topmost tree in front of the list below it.
 fn push_item<B: TermBank>(bank: &mut B, made: &mut Vec<Option<Term>>) -> Result<(), MakeFault>
     requires { (t : Tree) × ((ts : Trees) × ((ps : List Piece)
         × OnStack (Stands (B.store bank.old)) made.old.items (One t ∷ Several ts ∷ ps))) }
@@ -194,7 +194,7 @@ fn push_item<B: TermBank>(bank: &mut B, made: &mut Vec<Option<Term>>) -> Result<
     Ok(())
 }
 
-/// Takes the newest of what was made, and leaves what the node makes of it.
+/// Replaces the topmost pieces that the node needs by the piece that it makes of them.
 fn join<B: TermBank>(
     bank: &mut B,
     node: &Node,
@@ -221,7 +221,8 @@ fn join<B: TermBank>(
     }
 }
 
-/// Makes the tree of the nodes with the terms in their places.
+/// Makes the tree of the nodes with these terms in place of its placeholders. The nodes are visited
+/// from the last to the first, with a stack of finished pieces.
 pub fn fill<B: TermBank>(
     alloc: Global,
     nodes: &[Node],

@@ -1,4 +1,4 @@
-//! The nodes of a pattern.
+//! The nodes of a pattern, made from a term.
 
 ghost use Rattle.std.specs.Prelude.{◌≡◌, ◌++◌, ◌∷◌, [], map, true, IsSome, IsTrue, IfOk, OnOk};
 ghost use Rattle.std.specs.Prelude.{Some};
@@ -17,16 +17,16 @@ use crate::words::class_of;
 use rx_term::{Kind, Symbol, Term, TermBank};
 use std::alloc::{AllocError, Global};
 
-/// What is still to be made nodes of.
+/// A part of the term whose nodes are still to be made.
 #[derive(Clone, Copy, Drop)]
 pub enum Job {
     /// A tree.
     Tree(Term),
-    /// The items of a list; of no reference, none.
+    /// The items of a list; `None` has no items.
     Items(Option<Term>),
 }
 
-/// The node of a symbol.
+/// Returns the node of a symbol.
 fn application<B: TermBank>(alloc: Global, bank: &B, symbol: Symbol) -> Result<Node, AllocError>
     requires { IsSome (signature_of (B.store bank.now) symbol) }
     ensures { IfOk result (λ node. (s : Signature) → signature_of (B.store bank.now) symbol ≡ Some s
@@ -37,7 +37,7 @@ fn application<B: TermBank>(alloc: Global, bank: &B, symbol: Symbol) -> Result<N
     Ok(Node::Application(Name { bytes, quoted }))
 }
 
-/// Leaves the items of a list to do, and then the annotations.
+/// Pushes the annotations and then the items of a list, which come first.
 fn leave(jobs: &mut Vec<Job>, anns: Option<Term>, list: Term) -> Result<(), AllocError>
     ensures { OnOk result (jobs.new.items
         ≡ jobs.old.items ++ Job.Items anns ∷ Job.Items (Some list) ∷ []) }
@@ -47,7 +47,7 @@ fn leave(jobs: &mut Vec<Job>, anns: Option<Term>, list: Term) -> Result<(), Allo
     Ok(())
 }
 
-/// The first node of a tree; what is behind it is left to do.
+/// Returns the first node of a tree, and pushes the parts that follow it.
 fn tree_node<B: TermBank>(
     alloc: Global,
     bank: &B,
@@ -80,7 +80,7 @@ fn tree_node<B: TermBank>(
     }
 }
 
-/// Whether the tree is a placeholder `<list>`.
+/// Returns whether the tree is a placeholder `<list>`.
 fn is_list_placeholder<B: TermBank>(bank: &B, t: Term) -> bool
     requires { IsSome (tree_at (B.store bank.now) t) }
     ensures { (u : Tree) → tree_at (B.store bank.now) t ≡ Some u → result ≡ is_list_placeholder u }
@@ -91,7 +91,7 @@ fn is_list_placeholder<B: TermBank>(bank: &B, t: Term) -> bool
     }
 }
 
-/// The first node of the items of a list; what is behind it is left to do.
+/// Returns the first node of the items of a list, and pushes the parts that follow it.
 fn items_node<B: TermBank>(
     bank: &B,
     list: Option<Term>,
@@ -115,7 +115,7 @@ fn items_node<B: TermBank>(
     Ok(Node::Item)
 }
 
-/// The first node of a job; what is behind it is left to do.
+/// Returns the first node of a part, and pushes the parts that follow it.
 fn next_node<B: TermBank>(
     alloc: Global,
     bank: &B,
@@ -132,7 +132,7 @@ fn next_node<B: TermBank>(
     }
 }
 
-/// The nodes of a pattern.
+/// Returns the nodes of a pattern.
 pub fn flatten<B: TermBank>(alloc: Global, bank: &B, t: Term) -> Result<Vec<Node>, AllocError>
     requires { (u : Tree) × (tree_at (B.store bank.now) t ≡ Some u) × IsTrue (is_pattern u) }
     ensures { IfOk result (λ nodes. (u : Tree) → tree_at (B.store bank.now) t ≡ Some u

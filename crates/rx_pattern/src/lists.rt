@@ -1,5 +1,4 @@
-//! Lists without annotations of their own. A list may be given by no reference, which stands for no
-//! items.
+//! Lists without annotations of their own. `None` in place of a reference is the empty list.
 
 ghost use Rattle.std.specs.Prelude.{◌≡◌, ◌<◌, ◌^◌, IsSome, IfOk, IfErr, Some, None};
 ghost use Rattle.rx_term.specs.Tree.{Tree, Trees, none, annotated, annotations, list_of, is_none};
@@ -11,7 +10,7 @@ ghost use Rattle.rx_pattern.specs.Subjects.{IsListed};
 
 use rx_term::{BankFault, Kind, Term, TermBank};
 
-/// Whether a list has no items.
+/// Returns whether a list has no items.
 pub fn is_empty<B: TermBank>(bank: &B, list: Option<Term>) -> bool
     requires { (ts : Trees) × IsListed (B.store bank.now) list ts }
     ensures { (ts : Trees) → IsListed (B.store bank.now) list ts → result ≡ is_none ts }
@@ -22,7 +21,7 @@ pub fn is_empty<B: TermBank>(bank: &B, list: Option<Term>) -> bool
     }
 }
 
-/// The items as a list without annotations.
+/// Returns these items as a list without annotations.
 pub fn plain_list<B: TermBank>(bank: &mut B, list: Option<Term>) -> Result<Term, BankFault>
     requires { (ts : Trees) × IsListed (B.store bank.old) list ts }
     ensures list { IfOk result (λ r. (ts : Trees) → IsListed (B.store bank.old) list ts
@@ -41,7 +40,7 @@ pub fn plain_list<B: TermBank>(bank: &mut B, list: Option<Term>) -> Result<Term,
     bank.annotated(t, nil)
 }
 
-/// The tree with the items as its annotations.
+/// Returns the tree with these items as its annotations.
 pub fn annotate<B: TermBank>(bank: &mut B, t: Term, anns: Option<Term>) -> Result<Term, BankFault>
     requires bare { (u : Tree) × (tree_at (B.store bank.old) t ≡ Some u) × (annotations u ≡ none) }
     requires list { (as' : Trees) × IsListed (B.store bank.old) anns as' }
@@ -58,14 +57,14 @@ pub fn annotate<B: TermBank>(bank: &mut B, t: Term, anns: Option<Term>) -> Resul
     bank.annotated(t, list)
 }
 
-/// How many items a list has.
+/// Returns the number of items of a list.
 pub fn count<B: TermBank>(bank: &B, list: Term) -> u32
     requires { (ts : Trees) × (tree_at (B.store bank.now) list ≡ Some (list_of ts)) }
     ensures { (ts : Trees) → tree_at (B.store bank.now) list ≡ Some (list_of ts)
         → result ≡ count_of ts }
 {
     let mut rest = list;
-    // each tail of a list has a cell of its own
+    // each tail of a list has a cell of its own, so the number of cells bounds the loop
     let cells = bank.cells();
     for counted in 0..cells {
         if !matches!(bank.kind(rest), Kind::Cons) {

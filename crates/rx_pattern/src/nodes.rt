@@ -1,19 +1,19 @@
-//! A pattern as a flat list of nodes.
+//! The nodes of a pattern.
 
-/// What a placeholder stands for.
+/// The kind of a placeholder.
 #[derive(Clone, Copy, PartialEq, Eq, Debug, Drop)]
 pub enum Class {
-    /// Any tree.
+    /// `<term>`: any tree.
     Term,
-    /// An integer.
+    /// `<int>`: an integer.
     Int,
-    /// A quoted name without arguments.
+    /// `<str>`: a quoted name without arguments.
     Str,
-    /// An application.
+    /// `<appl>`: an application.
     Appl,
-    /// A placeholder.
+    /// `<placeholder>`: a placeholder.
     Placeholder,
-    /// A list.
+    /// `<list>`: a list.
     List,
 }
 
@@ -24,14 +24,14 @@ pub struct Name {
     pub quoted: bool,
 }
 
-/// A tree is its own node, then the arguments or elements, then the annotations; but a placeholder
-/// is one node. A list is an `Item` before each tree in it, and an `End` or, for a last `<list>`, a
-/// `Rest`.
+/// A node of a pattern. A tree has its own node, then the nodes of its arguments or items, then
+/// those of its annotations; a placeholder has one node. The nodes of a list are an `Item` before
+/// each tree in it, and an `End`, or a `Rest` for a last `<list>`.
 #[derive(Drop)]
 pub enum Node {
-    /// The integer.
+    /// An integer.
     Integer(i32),
-    /// An application of the name.
+    /// An application of this name.
     Application(Name),
     /// A list.
     List,
@@ -39,8 +39,8 @@ pub enum Node {
     Placeholder(Class),
     /// The end of a list.
     End,
-    /// A tree, and the rest of the list.
+    /// One more tree of a list, followed by the rest of the list.
     Item,
-    /// The rest of the list, whatever it is.
+    /// The rest of the list, which may be any list.
     Rest,
 }

@@ -1,4 +1,4 @@
-//! Patterns.
+//! The type of patterns.
 
 ghost use Rattle.std.specs.Prelude.{◌≡◌, ◌↔◌, ℕ, List, [], Some, None, Ok, Err, IsSome, IfSome};
 ghost use Rattle.std.specs.Prelude.{IfOk, IfErr, OnErr, IsErrOf, length};
@@ -22,7 +22,7 @@ use rx_term::{Term, TermBank};
 use std::alloc::Global;
 use std::marker::Model;
 
-/// A term with placeholders, apart from any bank; contracts see its tree.
+/// A pattern, independent of any store. Contracts see its tree.
 #[derive(Drop)]
 pub struct Pattern {
     alloc: Global,
@@ -45,8 +45,9 @@ impl Model for Pattern {
 }
 
 impl Pattern {
-    /// The pattern that a term of the bank is. `Unknown` where a placeholder is not one of the six,
-    /// else `Annotated` where one has annotations.
+    /// Makes a pattern from a term of the store. Returns `Unknown` if a placeholder is not one of
+    /// the six, otherwise `Annotated` if one has annotations, and `Memory` if an allocation failed.
+    /// Takes time linear in the size of the term as a tree.
     pub fn of<B: TermBank>(alloc: Global, bank: &B, t: Term) -> Result<Pattern, PatternFault>
         requires { IsSome (tree_at (B.store bank.now) t) }
         ensures made { IfOk result (λ p. tree_at (B.store bank.now) t ≡ Some p) }
@@ -62,9 +63,11 @@ impl Pattern {
         Ok(Pattern { alloc, nodes })
     }
 
-    /// Whether the pattern matches a term, and references of its bindings, in order. In the bank
-    /// only `[]` and annotated lists without their annotations are new. `out` is empty after any
-    /// other answer than true.
+    /// Returns whether the pattern matches a term, and in `out` the references of its bindings, in
+    /// order. Only `[]` and lists of the store without their annotations are added to the store.
+    /// `out` is empty if the pattern does not match, and after an error. Returns `Full` or `Memory`
+    /// if the store could not add a list, `Memory` also if an allocation failed. Takes time linear
+    /// in the size of the pattern.
     pub fn matches<B: TermBank>(
         &self,
         bank: &mut B,
@@ -93,16 +96,17 @@ impl Pattern {
         Ok(found)
     }
 
-    /// How many placeholders the pattern has.
+    /// Returns the number of placeholders. Takes time linear in the size of the pattern.
     pub fn placeholders(&self) -> usize
         ensures { result ≡ length (blanks self.now) }
     {
         count_blanks(&self.nodes)
     }
 
-    /// The pattern with terms in place of its placeholders, in order. `Count` where there are not
-    /// as many; else `Kind` with the least place of a term that its placeholder does not take; then
-    /// nothing changed.
+    /// Makes the pattern's tree with these terms in place of its placeholders, in order. Returns
+    /// `Count` if their numbers differ, otherwise `Kind` with the least index of a term that does
+    /// not fit its placeholder; the store is unchanged then. Returns `Full` or `Memory` if the
+    /// store could not grow.
     pub fn make<B: TermBank>(&self, bank: &mut B, args: &[Term]) -> Result<Term, MakeFault>
         requires { AllHeld (B.store bank.old) args.now }
         ensures made { IfOk result (λ r. (bs : List Tree) → HaveTrees (B.store bank.old) args.now bs

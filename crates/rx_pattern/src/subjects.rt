@@ -22,7 +22,7 @@ use crate::words::fits;
 use rx_term::{Kind, Symbol, Term, TermBank};
 use std::alloc::Global;
 
-/// Whether the tree is this integer; its annotations are left.
+/// Returns whether the tree is this integer; pushes its annotations.
 fn match_integer<B: TermBank>(
     bank: &B,
     value: i32,
@@ -45,7 +45,7 @@ fn match_integer<B: TermBank>(
     Ok(true)
 }
 
-/// Whether the symbol has the name.
+/// Returns whether the symbol has this name.
 fn is_name<B: TermBank>(bank: &B, symbol: Symbol, name: &Name) -> bool
     requires { IsSome (signature_of (B.store bank.now) symbol) }
     ensures { (g : Signature) → signature_of (B.store bank.now) symbol ≡ Some g
@@ -54,8 +54,8 @@ fn is_name<B: TermBank>(bank: &B, symbol: Symbol, name: &Name) -> bool
     name.bytes.as_slice() == bank.name_of(symbol) && name.quoted == bank.quoted_of(symbol)
 }
 
-/// Whether the tree is an application of this name; its arguments are left, and then its
-/// annotations.
+/// Returns whether the tree is an application of this name; pushes its annotations and then its
+/// arguments, which come first.
 fn match_application<B: TermBank>(
     bank: &B,
     name: &Name,
@@ -81,7 +81,7 @@ fn match_application<B: TermBank>(
     Ok(true)
 }
 
-/// Whether the tree is a list; its items are left, and then its annotations.
+/// Returns whether the tree is a list; pushes its annotations and then its items, which come first.
 fn match_list<B: TermBank>(
     bank: &B,
     t: Term,
@@ -101,7 +101,7 @@ fn match_list<B: TermBank>(
     Ok(true)
 }
 
-/// Whether there is an item; it is left, and then the others.
+/// Returns whether the list has an item; pushes the other items and then the first one.
 fn match_item<B: TermBank>(
     bank: &B,
     list: Option<Term>,
@@ -122,7 +122,7 @@ fn match_item<B: TermBank>(
     Ok(true)
 }
 
-/// Whether a placeholder stands for the tree, which is then a binding.
+/// Returns whether a placeholder fits the tree, and appends the tree to the bindings.
 fn match_placeholder<B: TermBank>(
     bank: &B,
     class: Class,
@@ -143,7 +143,7 @@ fn match_placeholder<B: TermBank>(
     Ok(true)
 }
 
-/// Binds the items of a list, as a list without annotations.
+/// Appends the items of a list to the bindings, as a list without annotations.
 fn bind_rest<B: TermBank>(
     bank: &mut B,
     list: Option<Term>,
@@ -162,7 +162,7 @@ fn bind_rest<B: TermBank>(
     Ok(())
 }
 
-/// Whether the node matches the front of its subject; the rest of it is left.
+/// Returns whether the node matches the start of its subject; pushes what remains of the subject.
 fn match_node<B: TermBank>(
     bank: &mut B,
     node: &Node,
@@ -193,7 +193,7 @@ fn match_node<B: TermBank>(
     }
 }
 
-/// Whether the nodes match the tree; the bindings go to `out`, which is empty before.
+/// Returns whether the nodes match the tree, and the bindings in `out`, which is empty before.
 pub fn match_nodes<B: TermBank>(
     alloc: Global,
     nodes: &[Node],

@@ -1,4 +1,4 @@
-//! The words of placeholders, and the trees that they stand for.
+//! The names of placeholders, and the trees that they match.
 
 ghost use Rattle.std.specs.Prelude.{◌≡◌, IsSome, option_map};
 ghost use Rattle.rx_term.specs.Tree.{Tree};
@@ -9,7 +9,7 @@ ghost use Rattle.rx_pattern.specs.Nodes.{kind_of_class};
 use crate::nodes::Class;
 use rx_term::{Kind, Term, TermBank};
 
-/// What the placeholder of a word stands for, where the word is one of the six.
+/// Returns the kind of the placeholder with this name, if it is one of the six.
 pub fn class_named(word: &[u8]) -> Option<Class>
     ensures { option_map kind_of_class result ≡ kind_named word.now }
 {
@@ -30,7 +30,7 @@ pub fn class_named(word: &[u8]) -> Option<Class>
     }
 }
 
-/// What a placeholder with this inside stands for, where it is one of the six.
+/// Returns the kind of the placeholder with this tree inside, if it is one of the six.
 pub fn class_of<B: TermBank>(bank: &B, inner: Term) -> Option<Class>
     requires { IsSome (tree_at (B.store bank.now) inner) }
     ensures { (u : Tree) → tree_at (B.store bank.now) inner ≡ Some u
@@ -45,7 +45,7 @@ pub fn class_of<B: TermBank>(bank: &B, inner: Term) -> Option<Class>
     class_named(bank.name_of(symbol))
 }
 
-/// Whether a placeholder stands for the tree.
+/// Returns whether a placeholder of this kind matches the tree.
 pub fn fits<B: TermBank>(bank: &B, class: Class, t: Term) -> bool
     requires { IsSome (tree_at (B.store bank.now) t) }
     ensures { (u : Tree) → tree_at (B.store bank.now) t ≡ Some u

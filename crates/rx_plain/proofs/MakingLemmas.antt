@@ -1,4 +1,4 @@
--- What a body put into a free slot does to a bank.
+-- What a body put into a free slot does to a store.
 use Rattle.std.proofs.Common.{List, length, ℕ, suc, ◌≡◌, ◌≢◌, ◌+◌, ◌≤◌, ◌<◌, true, Option, Some, None, IsSome, refl, sym, ap, ◌∙◌, arith, vec_capacity}
 use Rattle.std.specs.FinMap as map
 use Rattle.rx_term.specs.Tree.{Tree}
@@ -102,7 +102,7 @@ module _ (b : PlainBank) (body : Body) (tree : IsSome (tree_of_body (store_of b)
       room = let p = b.counted in let q = put-len ys i puts w.0 w.1.passes in omega arith;
     }
 
-    -- a refusal leaves the trees and the room
+    -- an error leaves the trees and the room
     pub put-refuses : (ys : List Slot) (e : BankFault) (w : Least (is_whole (heap_of ys) (table b) (length ys))) (room : ℕ) → ys ≡ b.slots.items
         → vec_capacity b.slots ≤ room → (store_of b).spare ≡ 0 → FaultFits (store_of b) e
         → Refuses (store_of b) (store_from (symbols_of b.names) ys w b.cap b.taken room) (tree_of_body (store_of b) body) e
@@ -116,7 +116,7 @@ module _ (b : PlainBank) (body : Body) (tree : IsSome (tree_of_body (store_of b)
       fits = fits;
     }
 
--- where no slot is free there are as many trees as slots
+-- if no slot is free there are as many trees as slots
 pub all-taken : (b : PlainBank) → ((t : ℕ) → t < length b.slots.items → heap_of b.slots.items t ≢ None) → b.taken ≡ length b.slots.items
 unfolding content_by
 all-taken b none_free = b.counted ∙ len-tabulate-all (length b.slots.items) _ (λ t lt.

@@ -132,7 +132,7 @@ closed-all xs each t i x m e c = elim (lt_or_le t (length xs)) [
   past (y ∷ ys) zero le q = omega arith
   past (y ∷ ys) (suc s) le q = past ys s (omega arith) q
 
--- after a pass with no new mark all is closed, else fewer slots are unmarked
+-- after a pass with no new mark all is closed, otherwise fewer slots are unmarked
 pub settled : (old new : List Slot) → Passes old new false → (new ≡ old) × MarksAreClosed new
 settled old new p = (p.progress.0, subst MarksAreClosed (sym p.progress.0) (closed-all old p.progress.1))
 
@@ -157,7 +157,7 @@ pub not-false : (b : Bool) → not b ≡ false → b ≡ true
 not-false true e = refl
 not-false false e = cc
 
--- roots and those handed in are marked, and then all that they are linked to
+-- roots and those passed in are marked, and then all that they are linked to
 pub heap-rooted : (xs : List Slot) → heap_of (map root_marked xs) ≡ heap_of xs
 heap-rooted xs = λ j t. at xs t j where
   at : (ys : List Slot) (t : ℕ) → heap_of (map root_marked ys) t ≡ heap_of ys t

@@ -32,7 +32,7 @@ held-cell b t held =
 pub held-within : (b : PlainBank) (t : Term) → IsSome (tree_at (store_of b) t) → t.0 < length b.slots.items
 held-within b t h = let x = held-cell b t.0 h in cell-within b.slots.items t.0 x.0 x.1
 
--- which the bank's vector has
+-- which the store's vector has
 pub held-index : (b : PlainBank) (t : Term) → IsSome (tree_at (store_of b) t) → t.0 < b.slots.len
 held-index b t h = let lt = held-within b t h in let size = b.slots.ok.0 in omega arith
 

@@ -1,4 +1,4 @@
--- What a bank keeps when the slots that are not marked are freed.
+-- What a store keeps when the slots that are not marked are freed.
 use Rattle.std.proofs.Common.{List, [], length, map, take, get_or, ℕ, zero, suc, ◌≡◌, ◌+◌, ◌≤◌, ◌<◌, Bool, true, false, Option, Some}
 use Rattle.std.proofs.Common.{None, IsSome, is_some, refl, sym, ap, ◌∙◌, subst, inl, inr, arith, Contains, vec_capacity, add-one}
 use Rattle.std.specs.Prelude.{if◌then◌else◌, count_by}
@@ -177,7 +177,7 @@ module _ (b : PlainBank) (marked ys : List Slot) (extra : List Term) (r : Reache
           omega arith);
     }
 
--- a bank's slots name slots of the bank
+-- a store's slots name slots of the store
 pub bank-within : (b : PlainBank) → AreLinksWithin b.slots.items
 unfolding content_by
 bank-within b t i x e c =

@@ -1,4 +1,4 @@
-//! The bank.
+//! The store.
 
 ghost use Rattle.std.specs.Prelude.{◌≡◌, ◌<◌, ◌≤◌, ℕ, None, length};
 ghost use Rattle.std.specs.FinMap as fin;
@@ -13,7 +13,7 @@ use rx_names::Names;
 use rx_term::{BankFault, Kind, RootsFull, Symbol, Term, TermBank};
 use std::alloc::Global;
 
-/// A bank of at most `cap` terms.
+/// A term store without hashing, for at most `cap` terms.
 #[derive(Drop)]
 pub struct PlainBank {
     slots: Vec<Slot>,
@@ -41,7 +41,7 @@ impl PlainBank {
     ghost use Rattle.rx_plain.specs.State.{store_of, tree_of_body};
     ghost use Rattle.rx_term.specs.Bank.{IsEmptyStore, IsNotesOf};
 
-    /// An empty bank of at most `cap` terms, from 1 to 2^30; or memory ran out, and nothing else.
+    /// Returns an empty store for at most `cap` terms, from 1 to 2^30. The only error is `Memory`.
     pub fn new(alloc: Global, cap: u32) -> Result<PlainBank, BankFault>
         requires { (0 < cap) × (cap ≤ 1073741824) }
         ensures empty { IfOk result (λ b. IsEmptyStore (store_of b) cap) }
@@ -58,7 +58,7 @@ impl PlainBank {
         }
     }
 
-    /// The reference of a body.
+    /// Returns the reference of a body, which is added if it is not there. Searches all slots.
     fn make(&mut self, body: Body) -> Result<Term, BankFault>
         requires { IsSome (tree_of_body (store_of self.old) body) }
         ensures { let w = store_of self.old in
@@ -90,7 +90,7 @@ impl PlainBank {
         }
     }
 
-    /// The body of a held reference.
+    /// Returns the body of a term.
     fn body(&self, t: Term) -> Body
         requires { IsSome (tree_at (store_of self.now) t) }
         ensures holds { heap_of self.now.slots.items t.0 ≡ Some (cell_of result) }
@@ -99,7 +99,7 @@ impl PlainBank {
         self.slots[t.0 as usize].body.unwrap()
     }
 
-    /// The reference of a list, unless it is empty.
+    /// Returns the reference of a list, unless it is empty.
     fn notes(&self, anns: Term) -> Option<Term>
         requires { IsSome (tree_at (store_of self.now) anns) }
         ensures { IsNotesOf (tree_at (store_of self.now) anns) anns.0 (notes_of result) }
@@ -110,7 +110,7 @@ impl PlainBank {
         }
     }
 
-    /// Replaces the count of a held reference.
+    /// Replaces the number of protections of a term.
     fn set_roots(&mut self, t: Term, count: u16)
         requires { IsSome (tree_at (store_of self.old) t) }
         ensures { store_of self.new ≡ with_count (store_of self.old) t count }
@@ -123,7 +123,7 @@ impl PlainBank {
         };
     }
 
-    /// How often a held reference is protected.
+    /// Returns the number of protections of a term.
     fn roots(&self, t: Term) -> u16
         requires { IsSome (tree_at (store_of self.now) t) }
         ensures { result ≡ (store_of self.now).roots t.0 }

@@ -1,4 +1,4 @@
-//! Marking what is reached, by passes over the slots.
+//! Marking of reached slots, by passes over all slots.
 
 ghost use Rattle.std.specs.Prelude.{◌≡◌, ◌<◌, ℕ, ◌∷◌, [], length, map, Contains, Some, slice_get};
 ghost use Rattle.rx_term.specs.declared.Term.{Term};
@@ -10,7 +10,7 @@ ghost use Rattle.rx_plain.specs.Marks.{Reaches, root_marked};
 use crate::slots::{Body, Shape, Slot};
 use rx_term::Term;
 
-/// Marks one slot; whether it was unmarked.
+/// Marks one slot. Returns whether it was not marked.
 fn mark(slots: &mut [Slot], t: Term) -> bool
     requires { t.0 < length slots.old }
     ensures marks { Marks slots.old slots.new (t.0 ∷ []) }
@@ -28,7 +28,7 @@ fn mark(slots: &mut [Slot], t: Term) -> bool
     true
 }
 
-/// Marks the slots that a shape names.
+/// Marks the slots that a shape names. Returns whether one of them was not marked.
 fn mark_shape(slots: &mut [Slot], shape: Shape) -> bool
     requires { (i : ℕ) → Contains (node_links (node_of shape)) i → i < length slots.old }
     ensures marks { Marks slots.old slots.new (node_links (node_of shape)) }
@@ -47,7 +47,7 @@ fn mark_shape(slots: &mut [Slot], shape: Shape) -> bool
     }
 }
 
-/// Marks the slot of an annotation list, where there is one.
+/// Marks the slot of an annotation list, if there is one.
 fn mark_notes(slots: &mut [Slot], anns: Option<Term>) -> bool
     requires { (i : ℕ) → Contains (notes_links (notes_of anns)) i → i < length slots.old }
     ensures marks { Marks slots.old slots.new (notes_links (notes_of anns)) }
@@ -70,7 +70,7 @@ fn mark_links(slots: &mut [Slot], body: Body) -> bool
     inside || beside
 }
 
-/// The slot at a place.
+/// Returns the slot with this index.
 fn slot_at(slots: &[Slot], place: usize) -> Slot
     requires { place < length slots.now }
     ensures { slice_get slots.now place ≡ Some result }
@@ -95,7 +95,7 @@ fn mark_below(slots: &mut [Slot], place: usize) -> bool
     }
 }
 
-/// Goes over all slots once; whether there is a new mark.
+/// Makes one pass over all slots. Returns whether there is a new mark.
 fn pass(slots: &mut [Slot]) -> bool
     requires { AreLinksWithin slots.old }
     ensures { Passes slots.old slots.new result }
@@ -108,7 +108,7 @@ fn pass(slots: &mut [Slot]) -> bool
     fresh
 }
 
-/// Marks all that marked slots name, until nothing is new.
+/// Makes passes until there is no new mark.
 fn spread(slots: &mut [Slot])
     requires { AreLinksWithin slots.old }
     ensures { Spreads slots.old slots.new }
@@ -119,7 +119,7 @@ fn spread(slots: &mut [Slot])
     }
 }
 
-/// Marks the slots that are handed in.
+/// Marks the slots of these references.
 fn mark_extra(slots: &mut [Slot], extra: &[Term])
     requires { (t : Term) → Contains extra.now t → t.0 < length slots.old }
     ensures { Marks slots.old slots.new (map (λ t. t.0) extra.now) }
@@ -129,7 +129,7 @@ fn mark_extra(slots: &mut [Slot], extra: &[Term])
     }
 }
 
-/// The slot, marked exactly where it is rooted.
+/// Returns the slot, marked if and only if it is protected.
 fn mark_if_rooted(slot: Slot) -> Slot
     ensures { result ≡ root_marked slot }
 {
@@ -140,7 +140,7 @@ fn mark_if_rooted(slot: Slot) -> Slot
     }
 }
 
-/// Marks the slots that are rooted, and no others.
+/// Marks exactly the slots that are protected.
 fn mark_roots(slots: &mut [Slot])
     ensures { slots.new ≡ map root_marked slots.old }
 {
@@ -150,7 +150,7 @@ fn mark_roots(slots: &mut [Slot])
     }
 }
 
-/// Marks all that is reached from the roots and from what is handed in, and nothing else.
+/// Marks exactly the slots that protected slots and those in `extra` reach.
 pub fn mark_reached(slots: &mut [Slot], extra: &[Term])
     requires within { AreLinksWithin slots.old }
     requires handed { (t : Term) → Contains extra.now t → t.0 < length slots.old }

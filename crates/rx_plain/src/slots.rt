@@ -1,4 +1,4 @@
-//! Slots: what each holds, and the first that holds a body or nothing.
+//! Slots, and the search for a body or a free slot.
 
 ghost use Rattle.std.specs.Prelude.{◌≡◌, ◌≢◌, ◌<◌, ◌↔◌, ℕ, IsTrue, Some, None, length, map};
 ghost use Rattle.std.specs.Prelude.{count_by, MatchOption};
@@ -6,7 +6,7 @@ ghost use Rattle.rx_plain.specs.Slots.{swept_of, is_taken, heap_of, cell_of, cel
 
 use rx_term::{Symbol, Term};
 
-/// What a taken slot holds, beside its annotations.
+/// The contents of a taken slot without its annotations.
 #[derive(Clone, Copy, PartialEq, Eq)]
 pub enum Shape {
     Int(i32),
@@ -16,14 +16,14 @@ pub enum Shape {
     Hole(Term),
 }
 
-/// A node with the reference of its annotation list.
+/// The contents of a slot, with the reference of its annotation list.
 #[derive(Clone, Copy, PartialEq, Eq)]
 pub struct Body {
     pub shape: Shape,
     pub anns: Option<Term>,
 }
 
-/// A place in the vector: free, or taken by a body.
+/// A slot: free, or taken by a body.
 #[derive(Clone, Copy)]
 pub struct Slot {
     pub body: Option<Body>,
@@ -31,7 +31,7 @@ pub struct Slot {
     pub mark: bool,
 }
 
-/// Whether the slot holds this body.
+/// Returns whether the slot has this body.
 fn is_of(slot: &Slot, body: Body) -> bool
     ensures { IsTrue result ↔ (cell_in slot.now.body ≡ Some (cell_of body)) }
 {
@@ -41,7 +41,7 @@ fn is_of(slot: &Slot, body: Body) -> bool
     }
 }
 
-/// The first slot that holds this body.
+/// Returns the first slot that has this body. Takes linear time.
 pub fn find(slots: &[Slot], body: Body) -> Option<usize>
     ensures { MatchOption result
         ((t : ℕ) → heap_of slots.now t ≢ Some (cell_of body))
@@ -55,7 +55,7 @@ pub fn find(slots: &[Slot], body: Body) -> Option<usize>
     None
 }
 
-/// The first slot that is free.
+/// Returns the first slot that is free. Takes linear time.
 pub fn find_free(slots: &[Slot]) -> Option<usize>
     ensures { MatchOption result
         ((t : ℕ) → t < length slots.now → heap_of slots.now t ≢ None)
@@ -69,7 +69,7 @@ pub fn find_free(slots: &[Slot]) -> Option<usize>
     None
 }
 
-/// The slot after a sweep: kept where it was marked, else free; unmarked.
+/// Returns the slot after a sweep: kept if it was marked, otherwise free; not marked.
 fn sweep_slot(slot: Slot) -> Slot
     ensures { result ≡ swept_of slot }
 {
@@ -88,7 +88,8 @@ fn sweep_slot(slot: Slot) -> Slot
     }
 }
 
-/// Frees the slots that are not marked, and takes the marks away; how many slots are taken then.
+/// Frees the slots that are not marked, and clears all marks. Returns the number of slots that are
+/// still taken.
 pub fn sweep(slots: &mut [Slot]) -> usize
     ensures slots { slots.new ≡ map swept_of slots.old }
     ensures taken { result ≡ count_by is_taken slots.new }

@@ -2,6 +2,7 @@ pub mod CountedPartLemmas
 pub mod ErrorLemmas
 pub mod FaultLemmas
 pub mod LineFrontLemmas
+mod MatchedLemmas
 pub mod NewlineLemmas
 pub mod PatternDueLemmas
 mod PatternLineLemmas
@@ -10,6 +11,7 @@ mod PatternTermLemmas
 pub mod ReadDueLemmas
 mod ReadLemmas
 pub mod RefusedItemLemmas
+pub mod ReportLemmas
 pub mod StreamLemmas
 pub mod TermDueLemmas
 mod TermRunRows

@@ -94,6 +94,7 @@ reports_all : (stop : RunFault) (first : ℕ) (before written : List ℕ) → ne
     → Reports stop (before ++ written)
 reports_all (fault.Memory lines) first before written h k = let e = newlines-append before written in omega (arith, e, h, k)
 reports_all (fault.Room lines) first before written h k = let e = newlines-append before written in omega (arith, e, h, k)
+reports_all (fault.Deep lines) first before written h k = let e = newlines-append before written in omega (arith, e, h, k)
 reports_all fault.Read first before written h k = absurd k
 reports_all fault.Write first before written h k = tt
 

@@ -1,5 +1,5 @@
 -- From what was read of a term's text to what is due.
-use Rattle.std.proofs.Common.{◌≡◌, ◌≢◌, ℕ, suc, ◌+◌, List, [], ◌∷◌, ◌++◌, Option, Some, None, IfSome, IsSome, is_some, take, refl, sym, ap, subst, ◌∙◌, arith}
+use Rattle.std.proofs.Common.{◌≡◌, ◌≢◌, ℕ, Bool, true, false, suc, ◌+◌, List, [], ◌∷◌, ◌++◌, Option, Some, None, IfSome, IsSome, is_some, take, refl, sym, ap, subst, ◌∙◌, arith}
 use Rattle.std.specs.Prelude.{All}
 use Rattle.std.specs.Option.{option_map_or}
 use Rattle.std.proofs.lemmas.Bool.Decides.{nat_tests}
@@ -19,8 +19,6 @@ use Rattle.rx_run.specs.declared.refusal.Reading.{Reading}
 use Rattle.rx_run.specs.declared.refusal.Reading.TheVariants.{Refused, Good}
 use Rattle.rx_run.specs.declared.refusal.Refusal.{Refusal}
 use Rattle.rx_run.specs.declared.streams.TheConstants.{LIMIT}
-use Rattle.rx_run.specs.declared.term.runs.TermLines.{TermLines}
-use Rattle.rx_run.specs.declared.term.runs.TermLines.TheVariants.{Text, TextAndCells}
 use Rattle.rx_run.proofs.WholeRunLemmas.{same_refusal, short_front}
 
 -- one byte past the limit is enough for the verdict
@@ -82,10 +80,10 @@ share_lines-at w v t n held same counted = by (tree_at w t) refl held counted
     by (Some u) e h c = rw (same, e) (ap (λ k. term_line u ++ cells_line k) (sym c))
 
 -- where protections stay, none come
-pub still_unrooted : (lines : TermLines) (old new : Store) → new.roots ≡ old.roots → IsUnrooted lines old → IsUnrooted lines new
-still_unrooted Text old new e h = tt
-still_unrooted TextAndCells old new e h = λ t. ap (λ roots. roots t) e ∙ h t
+pub still_unrooted : (reclaims : Bool) (old new : Store) → new.roots ≡ old.roots → IsUnrooted reclaims old → IsUnrooted reclaims new
+still_unrooted false old new e h = tt
+still_unrooted true old new e h = λ t. ap (λ roots. roots t) e ∙ h t
 
-pub unrooted_for : (lines : TermLines) (w : Store) → ((t : ℕ) → w.roots t ≡ 0) → IsUnrooted lines w
-unrooted_for Text w h = tt
-unrooted_for TextAndCells w h = h
+pub unrooted_for : (reclaims : Bool) (w : Store) → ((t : ℕ) → w.roots t ≡ 0) → IsUnrooted reclaims w
+unrooted_for false w h = tt
+unrooted_for true w h = h

@@ -1,11 +1,11 @@
 -- What a run leaves, by what is due.
-use Rattle.std.proofs.Common.{◌≡◌, ℕ, ◌+◌, ◌≤◌, List, [], Option, Some, None, IfSome, length, take, take_all, refl, ap, subst, arith}
+use Rattle.std.proofs.Common.{◌≡◌, ℕ, Bool, true, ◌+◌, ◌≤◌, List, [], Option, Some, None, IfSome, length, take, take_all, refl, ap, subst, arith}
 use Rattle.std.proofs.lemmas.List.{length-take}
 use Rattle.std.specs.Io.KnownBytes.{Appends}
 use Rattle.rx_run.specs.Due.{Due}
 use Rattle.rx_run.specs.Refusals.{finish_of, place_of}
-use Rattle.rx_run.specs.Run.{BreaksFor, Concludes, ConcludesFor, Ends, EndsFor, IsEnding, IsPlaced, IsPlacedFor}
-use Rattle.rx_run.specs.Run.{Reports, Stops}
+use Rattle.rx_run.specs.Run.{BreaksFor, BreaksForBy, Concludes, ConcludesFor, Ends, EndsFor, IsEnding, IsPlaced, IsPlacedFor}
+use Rattle.rx_run.specs.Run.{Reports, ReportsBy, Stops, StopsBy}
 use Rattle.rx_run.specs.declared.ending.RunFault.{RunFault}
 use Rattle.rx_run.specs.declared.refusal.Ending.{Ending}
 use Rattle.rx_run.specs.declared.refusal.Ending.TheVariants.{Done, Refused}
@@ -52,15 +52,23 @@ module _ {T : Type 0} (IsDue : T → Due → Type 0) where
   placed_so (Some x) ending old new h = placed_with (IsDue x) ending old new h
 
   -- where one thing is due at most
+  pub breaks_due_by : (counted : Bool) → ((x : T) (d e : Due) → IsDue x d → IsDue x e → d ≡ e) → (texts : Option T) (d : Due) (fault : RunFault)
+      (old new : Option (List ℕ)) → IfSome texts (λ x. IsDue x d) → StopsBy counted fault d.text old new → BreaksForBy counted IsDue texts fault old new
+  breaks_due_by counted one None d fault old new h s = tt
+  breaks_due_by counted one (Some x) d fault old new h s = λ e is. subst (λ (z : Due). StopsBy counted fault z.text old new) (one x d e h is) s
+
   pub breaks_due : ((x : T) (d e : Due) → IsDue x d → IsDue x e → d ≡ e) → (texts : Option T) (d : Due) (fault : RunFault) (old new : Option (List ℕ))
       → IfSome texts (λ x. IsDue x d) → Stops fault d.text old new → BreaksFor IsDue texts fault old new
-  breaks_due one None d fault old new h s = tt
-  breaks_due one (Some x) d fault old new h s = λ e is. subst (λ (z : Due). Stops fault z.text old new) (one x d e h is) s
+  breaks_due one texts d fault old new h s = breaks_due_by true one texts d fault old new h s
 
   -- nothing was written
+  pub breaks_unwritten_by : (counted : Bool) (texts : Option T) (fault : RunFault) (old : Option (List ℕ)) → ReportsBy counted fault []
+      → BreaksForBy counted IsDue texts fault old old
+  breaks_unwritten_by counted None fault old r = tt
+  breaks_unwritten_by counted (Some x) fault old r = λ d is. record { written = []; appended = appends_same old; front = (d.text, refl); reported = r }
+
   pub breaks_unwritten : (texts : Option T) (fault : RunFault) (old : Option (List ℕ)) → Reports fault [] → BreaksFor IsDue texts fault old old
-  breaks_unwritten None fault old r = tt
-  breaks_unwritten (Some x) fault old r = λ d is. record { written = []; appended = appends_same old; front = (d.text, refl); reported = r }
+  breaks_unwritten texts fault old r = breaks_unwritten_by true texts fault old r
 
 -- a front within the limit is the whole text
 pub short_front : (bytes : List ℕ) → length (take (LIMIT + 1) bytes) ≤ LIMIT → take (LIMIT + 1) bytes ≡ bytes

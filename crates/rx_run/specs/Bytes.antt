@@ -1,6 +1,6 @@
--- Line ends in what a writer was given.
+-- Line ends in the bytes that a writer received.
 use Rattle.std.specs.Prelude.{ℕ, List, ◌==◌, count_by}
 
--- how many line ends there are
+-- newlines text: the number of line ends
 abbrev pub newlines : List ℕ → ℕ
 newlines text = count_by (λ b. b == 10) text

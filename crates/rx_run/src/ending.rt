@@ -1,49 +1,48 @@
-//! How a run ends.
+//! The ends of a run, its errors, and the offsets of errors in inputs.
 
 ghost use Rattle.std.specs.Prelude.{◌≡◌};
 
-use crate::streams::ReadFault;
-use rx_text::RefusedWrite;
+use rx_text::{RefusedRead, RefusedWrite, WriteFault};
 use std::alloc::AllocError;
 use std::fmt;
 use thiserror::Error;
 
-/// How a run ends that met no fault.
+/// The end of a run that did not fail, without the reason.
 #[derive(Clone, Copy, Debug, Drop, PartialEq, Eq)]
 pub enum Finish {
     /// All lines were written.
     Done,
-    /// A text was refused, and its refusal line was written.
+    /// An input was rejected, and its error line was written.
     Refused,
 }
 
-/// Why a run stopped before its end. `lines` counts the lines that were written whole.
+/// The error of a run that failed. `lines` is the number of complete lines that were written.
 #[derive(Clone, Copy, Debug, Drop, PartialEq, Eq, Error)]
 pub enum RunFault {
-    /// A growth was refused.
+    /// An allocation failed.
     #[error("out of memory")]
     Memory { lines: u64 },
-    /// There were as many cells as the options allow.
+    /// The store is full: it has as many cells as the options allow.
     #[error("out of cells")]
     Room { lines: u64 },
-    /// The reader answered an error.
+    /// Calls were nested more deeply than the options allow.
+    #[error("too deep")]
+    Deep { lines: u64 },
+    /// The reader returned an error.
     #[error("read failed")]
     Read,
-    /// The writer answered an error, or took nothing.
+    /// The writer returned an error, or accepted no byte.
     #[error("write failed")]
     Write,
 }
 
-impl From<ReadFault> for RunFault {
-    ghost use Rattle.rx_run.specs.Run.{fault_of_read};
+impl From<RefusedRead> for RunFault {
+    ghost use Rattle.rx_run.specs.declared.ending.RunFault.TheVariants.{Read};
 
-    ghost from_gives = { λ e r. r ≡ fault_of_read e };
+    ghost from_gives = { λ _ r. r ≡ Read };
 
-    fn from(error: ReadFault) -> RunFault {
-        match error {
-            ReadFault::Memory => RunFault::Memory { lines: 0 },
-            ReadFault::Read => RunFault::Read,
-        }
+    fn from(_error: RefusedRead) -> RunFault {
+        RunFault::Read
     }
 }
 
@@ -57,6 +56,20 @@ impl From<RefusedWrite> for RunFault {
     }
 }
 
+/// Converts a write error to the error of a run whose lines are not counted.
+impl From<WriteFault> for RunFault {
+    ghost use Rattle.rx_run.specs.Run.{fault_of_write};
+
+    ghost from_gives = { λ e r. r ≡ fault_of_write e };
+
+    fn from(error: WriteFault) -> RunFault {
+        match error {
+            WriteFault::Memory => RunFault::Memory { lines: 0 },
+            WriteFault::Write => RunFault::Write,
+        }
+    }
+}
+
 impl From<AllocError> for RunFault {
     ghost use Rattle.rx_run.specs.declared.ending.RunFault.TheVariants.{Memory};
 
@@ -67,12 +80,12 @@ impl From<AllocError> for RunFault {
     }
 }
 
-/// A text that a run reads.
+/// An input of a run.
 #[derive(Clone, Copy, Debug, Drop, PartialEq, Eq)]
 pub enum Source {
     /// A specification.
     Spec,
-    /// A list of terms that are given beside it.
+    /// A list of input terms.
     Terms,
     /// An annotated term.
     Term,
@@ -82,25 +95,25 @@ pub enum Source {
     Args,
 }
 
-/// A refusal that has a place.
+/// An error that has an offset.
 #[derive(Clone, Copy, Debug, Drop, PartialEq, Eq)]
 pub enum Named {
-    /// Outside the grammar of specifications.
+    /// `G`: a syntax error in a specification.
     G,
-    /// One of the rules 1 to 11 of specifications.
+    /// `S1` to `S11`: a specification violates this well-formedness rule.
     S(u8),
-    /// Outside the grammar of annotated terms.
+    /// `A`: a syntax error in an annotated term.
     A,
 }
 
-/// Where a refusal stands: `at` bytes behind the text's beginning.
+/// The location of an error in an input.
 #[derive(Clone, Copy, Debug, Drop, PartialEq, Eq)]
 pub struct Place {
-    /// The text that is refused.
+    /// The rejected input.
     pub text: Source,
-    /// The refusal.
+    /// The error.
     pub rule: Named,
-    /// How many bytes stand before it.
+    /// The offset of the error in bytes.
     pub at: u32,
 }
 

@@ -3,5 +3,5 @@
 pub(crate) mod answer;
 pub(crate) mod lines;
 pub(crate) mod making;
+pub(crate) mod matching;
 pub(crate) mod reading;
-pub(crate) mod runs;

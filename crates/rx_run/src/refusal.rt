@@ -1,4 +1,4 @@
-//! Refused texts, and what a text comes to.
+//! Errors that reject an input, and results of reading.
 
 ghost use Rattle.std.specs.Prelude.{◌≡◌};
 ghost use Rattle.rx_run.specs.declared.refusal.Reading.TheVariants.{Refused};
@@ -7,32 +7,33 @@ ghost use Rattle.rx_run.specs.Refusals.{ending_of, finish_of, place_by, place_of
 use crate::ending::{Finish, Named, Place, Source};
 use std::fmt;
 
-/// Why a text is refused.
+/// Why an input is rejected.
 #[derive(Clone, Copy)]
 pub enum Reason {
-    /// It is too long.
+    /// `L1`: it is longer than [`LIMIT`](crate::LIMIT).
     Long,
-    /// It leaves the grammar of specifications.
+    /// `G`: a syntax error in a specification, at this offset.
     Grammar { at: u32 },
-    /// It breaks a rule of specifications.
+    /// `S1` to `S11`: a specification violates this well-formedness rule. The offset is that of the
+    /// violation.
     Rule { number: u8, at: u32 },
-    /// It leaves the grammar of annotated terms.
+    /// `A`: a syntax error in an annotated term, at this offset.
     Outside { at: u32 },
-    /// It breaks a rule of given terms.
+    /// `T1` to `T6`: input terms violate this well-formedness rule.
     TermsRule { number: u8 },
-    /// A placeholder of the pattern is none of the six.
+    /// `P1`: a placeholder of the pattern is not one of the six kinds.
     Unknown,
-    /// A placeholder of the pattern has annotations.
+    /// `P2`: a placeholder of the pattern has annotations.
     Annotated,
-    /// The arguments are not one list without annotations.
+    /// `T1`: the arguments are not a list without annotations.
     Unlisted,
-    /// There are not as many arguments as placeholders.
+    /// `M1`: the number of arguments differs from the number of placeholders.
     Count,
-    /// A placeholder does not take its argument.
+    /// `M2`: a placeholder does not accept its argument.
     Kind,
 }
 
-/// The refusal's name.
+/// Prints the error code.
 impl fmt::Display for Reason {
     fn fmt<W: fmt::Write>(&self, f: &mut fmt::Formatter<W>) -> fmt::Result {
         match *self {
@@ -50,17 +51,17 @@ impl fmt::Display for Reason {
     }
 }
 
-/// A text that is refused, and why.
+/// An input that is rejected, with the reason.
 #[derive(Clone, Copy)]
 pub struct Refusal {
-    /// The text.
+    /// The input.
     pub text: Source,
-    /// Why it is refused.
+    /// Why it is rejected.
     pub reason: Reason,
 }
 
 impl Refusal {
-    /// Where the text is refused; nothing where the refusal has no place.
+    /// Returns the location of the error, or `None` if this error has no offset.
     pub fn place(self) -> Option<Place>
         ensures { result ≡ place_by self.text self.reason }
     {
@@ -78,17 +79,17 @@ impl Refusal {
     }
 }
 
-/// How a run ends that met no fault, and why.
+/// The end of a run that did not fail, with the reason.
 #[derive(Clone, Copy)]
 pub enum Ending {
     /// All lines were written.
     Done,
-    /// A text was refused, and its refusal line was written.
+    /// An input was rejected, and its error line was written.
     Refused(Refusal),
 }
 
 impl Ending {
-    /// How the run ends.
+    /// Returns the end of the run without the reason.
     pub fn finish(self) -> Finish
         ensures { result ≡ finish_of self }
     {
@@ -98,7 +99,8 @@ impl Ending {
         }
     }
 
-    /// Where a text is refused; nothing where none is, and where the refusal has no place.
+    /// Returns the location of the error, or `None` if no input was rejected or the error has no
+    /// offset.
     pub fn place(self) -> Option<Place>
         ensures { result ≡ place_of self }
     {
@@ -109,24 +111,24 @@ impl Ending {
     }
 }
 
-/// What a text, or the texts of a run, came to.
+/// The result of reading one or more inputs.
 #[derive(Drop)]
 pub enum Reading<T> {
-    /// A text is refused.
+    /// An input was rejected.
     Refused(Refusal),
-    /// All are good, and came to this.
+    /// All inputs were accepted, with this result.
     Good(T),
 }
 
 impl<T> Reading<T> {
-    /// That a text is refused.
+    /// Returns the result for a rejected input.
     pub fn refused(text: Source, reason: Reason) -> Reading<T>
         ensures { result ≡ Refused (record { text = text; reason = reason }) }
     {
         Reading::Refused(Refusal { text, reason })
     }
 
-    /// How a run ends that meets no fault.
+    /// Returns the end of a run with this result, if the run does not fail.
     pub fn ending(&self) -> Ending
         ensures { result ≡ ending_of self.now }
     {

@@ -1,4 +1,4 @@
--- A slot that is taken for a body and linked, as a step of the bank.
+-- A slot that is taken for a body and linked, as a step of the store.
 use Rattle.std.proofs.Common.{◌≡◌, ◌≢◌, ℕ, ◌%◌, ◌<◌, ◌∷◌, length, Some, None, sym, ap, subst, arith}
 use Rattle.std.specs.Prelude.{slice_set}
 use Rattle.std.proofs.lemmas.Nat.{mod_below}

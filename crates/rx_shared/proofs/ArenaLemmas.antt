@@ -38,7 +38,7 @@ tidy-from a law written homed unmarked no_gray counted = record {
   none_past s le None e = e
   none_past s le (Some t) e = absurd (let lt = law.below s (t, e) in omega (arith, lt))
 
--- a taken slot stands in the chains once
+-- a taken slot is in the chains once
 pub chained-once : (a : ArenaState) → IsTidy a → (s : ℕ) (t : Taken) → taken_at a s ≡ Some t → times_in s a.chains ≡ 1
 chained-once a tidy s t e =
     let one = tidy.homed s t e in

@@ -1,4 +1,4 @@
--- What is handed in is marked and gray, one after the other.
+-- What is passed in is marked and gray, one after the other.
 use Rattle.std.proofs.Common.{◌≡◌, List, [], ◌∷◌, ◌++◌, ◌⊎◌, inl, inr, sym, ap, subst, ◌∙◌}
 use Rattle.std.proofs.lemmas.List.Elements.{Contains-append_left, Contains-append_right, Contains-append_cases}
 use Rattle.rx_term.proofs.PartsLemmas.{cons_head, cons_cases, no_element}

@@ -61,7 +61,7 @@ module _ (b : SharedBank) where
     | inr q ↦ (let was : taken_at b.arena s ≡ Some t = sym (others s q.1) ∙ e in λ p h. stays p (not-named k free s t was p h) (b.covered s t was p h))
   ]
 
-  -- where no taken cell can have the body, no slot holds it
+  -- if no taken cell can have the body, no slot holds it
   pub ruled-out : (body : CellBody) → IsWritten body → ¬ (Covers b.hints.last.items body) → (s : ℕ) → heap_of b.arena s ≢ Some (cell_of body)
   ruled-out body written out s e =
       let t = cell-taken (taken_at b.arena s) (cell_of body) e in
@@ -97,7 +97,7 @@ not-asked k a b hash few low small e =
     let less = small.1 in
     omega (arith, s, less)
 
--- the list behind a first item is held, and so are arguments
+-- the list after a first item is held, and so are arguments
 pub longer-tail : (x xs : Option Tree) → IsSome (longer x xs) → IsSome xs
 longer-tail None None h = h
 longer-tail (Some t) None h = h

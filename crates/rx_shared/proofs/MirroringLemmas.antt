@@ -1,4 +1,4 @@
--- A bank's arena mirrors its store.
+-- A store's arena mirrors its store.
 use Rattle.std.proofs.Common.{◌≡◌, ◌≢◌, ℕ, zero, suc, [], ◌∷◌, get_or, ◌+◌, ◌%◌, ◌≤◌, inl, inr, List}
 use Rattle.std.proofs.Common.{length, Option, Some, None, IsSome, is_some, refl, sym, ap, ◌∙◌, arith}
 use Rattle.std.specs.Prelude.{cond, nat_eq}
@@ -67,7 +67,7 @@ one-home a tidy s t e c =
           ∙ sym (ap (λ h. cond (nat_eq c h) 1 0) hash ∙ ap (λ y. cond y 1 0) p.0)
     ]
 
--- each slot in a chain stands in the one that its hash names
+-- each slot in a chain is in the one that its hash names
 pub bank-homed : (b : SharedBank) → IsHomed b.arena
 bank-homed b s c h =
     let t = (bank-law b).chained_taken s (chain_in b.arena c s h) in

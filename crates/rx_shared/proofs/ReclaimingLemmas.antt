@@ -1,4 +1,4 @@
--- What a bank keeps when its arena is collected.
+-- What a store keeps when its arena is collected.
 use Rattle.std.proofs.Common.{◌≡◌, ℕ, zero, suc, ◌%◌, ◌<◌, ◌≤◌, ◌⊎◌, inl, inr, Bool, true, false, List, [], length}
 use Rattle.std.proofs.Common.{get_or, Option, Some, None, IsSome, is_some, refl, sym, ap, subst, ◌∙◌, arith, Contains}
 use Rattle.std.specs.Prelude.{if◌then◌else◌, filter}
@@ -71,7 +71,7 @@ named-taken : (o : Option Taken) (t : ℕ) → 0 < times t (cell_names o) → (x
 named-taken None t h = absurd (omega (arith, h))
 named-taken (Some x) t h = (x, refl)
 
--- what a bank's cells name is taken
+-- what a store's cells name is taken
 pub bank-closed : (b : SharedBank) (s t : ℕ) → 0 < times t (named_at b.arena s) → IsTaken b.arena t
 unfolding content_by
 bank-closed b s t h =
@@ -87,7 +87,7 @@ bank-closed b s t h =
     by_heap : (s : ℕ) (y : Cell) → heap_of b.arena s ≡ Some y → IsSome (trees b s)
     by_heap s y e = cell-held b s ∙ ap is_some e
 
--- the slot is rooted, or handed in
+-- the slot is rooted, or passed in
 abbrev pub IsStart : SharedBank → List Term → ℕ → Type 0
 IsStart b extra s = (0 < roots_at b.arena s) ⊎ IsOneOf extra s
 
@@ -103,7 +103,7 @@ unmarked-body : (o : Option Taken) (t : Taken) → unmarked o ≡ Some t → (v 
 unmarked-body None t e = absurd (cc)
 unmarked-body (Some v) t e = let q : with_marking false v ≡ t = cc in (v, refl, ap (λ (w : Taken). w.body) q)
 
--- an arena in which what is handed in is gray
+-- an arena in which what is passed in is gray
 module _ (b : SharedBank) (g : ArenaState) (extra : List Term) (m : Marks b.arena g (IsOneOf extra)) (law_g : IsArena g) where
   pub can_collect : CanCollect g
   can_collect = record {
@@ -115,7 +115,7 @@ module _ (b : SharedBank) (g : ArenaState) (extra : List Term) (m : Marks b.aren
     ];
   }
 
-  -- what is gray was handed in
+  -- what is gray was passed in
   gray_handed : (s : ℕ) → 0 < times s g.gray → IsOneOf extra s
   gray_handed s h = elim (m.only s (law_g.gray_marked s h)) [
     | inl p ↦ absurd (let z = b.tidy.unmarked s in cc)

@@ -1,4 +1,7 @@
-//! The bank.
+//! The store: its invariant, reading, protection and collection.
+//!
+//! The reading functions are inlined always: if a program has engines of several kinds they have
+//! many callers, and the compiler would make functions of them.
 
 mod making;
 
@@ -21,13 +24,13 @@ use rx_sweep::kinds::{APPLICATION, LIST, PLACEHOLDER};
 use rx_term::{BankFault, Kind, RootsFull, Symbol, Term, TermBank};
 use std::alloc::Global;
 
-/// The first number of chains is 2 to this power.
+/// The number of chains at first is 2 to this power.
 const FIRST_BITS: u32 = 10;
 
-/// The last number of chains is 2 to this power.
+/// The largest number of chains is 2 to this power.
 const LAST_BITS: u32 = 30;
 
-/// A bank of at most `cap` terms.
+/// A term store with maximal sharing, for at most `cap` cells.
 #[derive(Drop)]
 pub struct SharedBank {
     arena: Arena,
@@ -59,7 +62,8 @@ impl SharedBank {
     ghost use Rattle.rx_shared.specs.Mirror.{Mirrors};
     ghost use Rattle.rx_arena.specs.Arena.{IsArena};
 
-    /// An empty bank of at most `cap` terms, from 1 to 2^30; or memory ran out, and nothing else.
+    /// Returns an empty store for at most `cap` cells, from 1 to 2^30. The only error is `Memory`.
+    /// Blocks of cells are allocated when they are needed.
     pub fn new(alloc: Global, cap: u32) -> Result<SharedBank, BankFault>
         requires { (0 < cap) × (cap ≤ 1073741824) }
         ensures empty { IfOk result (λ b. IsEmptyStore (store_of b) cap) }
@@ -80,8 +84,8 @@ impl SharedBank {
         })
     }
 
-    /// The arena, which holds the bank's trees and nothing else: reference and slot have the same
-    /// number.
+    /// Returns the arena, which has exactly the store's trees: a reference and its slot have the
+    /// same number.
     pub fn arena(&self) -> &Arena
         ensures mirrors { Mirrors (store_of self.now) result.now }
         ensures law { IsArena result.now }
@@ -89,7 +93,7 @@ impl SharedBank {
         &self.arena
     }
 
-    /// What the body of a held reference says but for its hash.
+    /// Returns the contents of a term's cell without the hash.
     #[inline(always)]
     fn face(&self, t: Term) -> Face
         requires { IsSome (tree_at (store_of self.now) t) }
@@ -98,7 +102,7 @@ impl SharedBank {
         self.arena.face(Slot(t.0))
     }
 
-    /// The same, where the word beside the cell says it.
+    /// Returns the contents of a term's cell, if they fit in the word of its slot.
     #[inline(always)]
     fn face_beside(&self, t: Term) -> Option<Face>
         requires { IsSome (tree_at (store_of self.now) t) }
@@ -107,7 +111,7 @@ impl SharedBank {
         said(self.arena.word(Slot(t.0)))
     }
 
-    /// The kind of a held reference whose body says this.
+    /// Returns the kind of a term whose cell has these contents.
     #[inline(always)]
     fn kind_of(&self, t: Term, face: Face) -> Kind
         requires held { IsSome (tree_at (store_of self.now) t) }
@@ -127,7 +131,7 @@ impl SharedBank {
         }
     }
 
-    /// The kind of a held reference, from what the cell says, as few words do not say it.
+    /// Returns the kind of a term, read in its cell; few words do not have it.
     #[inline(never)]
     fn kind_in_cell(&self, t: Term) -> Kind
         requires { IsSome (tree_at (store_of self.now) t) }
@@ -136,7 +140,7 @@ impl SharedBank {
         self.kind_of(t, self.face(t))
     }
 
-    /// The first word of the body of a held reference.
+    /// Returns the first word of a term's body.
     #[inline(always)]
     fn first(&self, t: Term) -> u64
         requires { IsSome (tree_at (store_of self.now) t) }
@@ -145,7 +149,7 @@ impl SharedBank {
         self.arena.first(Slot(t.0))
     }
 
-    /// The second word of the body of a held reference.
+    /// Returns the second word of a term's body.
     #[inline(always)]
     fn second(&self, t: Term) -> u64
         requires { IsSome (tree_at (store_of self.now) t) }
@@ -154,7 +158,7 @@ impl SharedBank {
         self.arena.second(Slot(t.0))
     }
 
-    /// The slot of a list, unless it is empty.
+    /// Returns the slot of a list, unless it is empty.
     fn notes(&self, anns: Term) -> Option<Slot>
         requires { IsSome (tree_at (store_of self.now) anns) }
         ensures { IsNotesOf (tree_at (store_of self.now) anns) anns.0 (notes_of result) }
@@ -166,7 +170,7 @@ impl SharedBank {
         }
     }
 
-    /// Replaces the count of a held reference.
+    /// Replaces the number of protections of a term.
     fn set_roots(&mut self, t: Term, count: u16)
         requires { IsSome (tree_at (store_of self.old) t) }
         ensures { store_of self.new ≡ with_count (store_of self.old) t count }
@@ -174,7 +178,7 @@ impl SharedBank {
         self.arena.set_roots(Slot(t.0), count);
     }
 
-    /// How often a held reference is protected.
+    /// Returns the number of protections of a term.
     fn roots(&self, t: Term) -> u16
         requires { IsSome (tree_at (store_of self.now) t) }
         ensures { result ≡ (store_of self.now).roots t.0 }

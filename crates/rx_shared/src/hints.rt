@@ -1,5 +1,11 @@
-//! What was made last over each slot, four bytes a slot: so most bodies are found, or known to be
-//! new, with no search.
+//! Hints: the cell that was made last over each slot, in four bytes per slot. So most bodies are
+//! found, or known to be new, without a search.
+//!
+//! Of a list node the entry of the tail is read first, and that of the head before a chain is
+//! searched. An outdated entry leads to a cell that differs, and then the chain is searched.
+//! Entries are added in blocks of 1,024; without memory slots have none. If two symbols are used
+//! over one list in turn, each replaces the other's entry: two entries per slot would take more
+//! instructions.
 
 ghost use Rattle.std.specs.Prelude.{◌≡◌, ◌≢◌, ℕ, ◌<◌, [], IsTrue};
 ghost use Rattle.rx_sweep.specs.Reach.{annotations, words};
@@ -10,10 +16,10 @@ use rx_arena::{CellBody, Slot};
 use rx_sweep::kinds::{APPLICATION, LIST, PLACEHOLDER};
 use std::alloc::Global;
 
-/// The entry that says nothing.
+/// The entry that means "unknown".
 const UNKNOWN: u32 = u32::MAX;
 
-/// For each slot the number of the last cell that was made over it, and 1, or 0 where nothing names
+/// For each slot the number of the cell that was made last over it, plus 1, or 0 if no cell names
 /// the slot; and the slot of the empty list.
 #[derive(Drop)]
 pub(crate) struct Hints {
@@ -22,7 +28,7 @@ pub(crate) struct Hints {
 }
 
 impl Hints {
-    /// Nothing is known.
+    /// Returns hints without entries.
     pub(crate) fn new(alloc: Global) -> Hints
         ensures { result.last.items ≡ [] }
     {
@@ -32,7 +38,7 @@ impl Hints {
         }
     }
 
-    /// The entry of a slot.
+    /// Returns the entry of a slot.
     #[inline(always)]
     fn get(&self, slot: u64) -> u32
         ensures { result ≡ entry self.now.last.items slot }
@@ -43,7 +49,7 @@ impl Hints {
         }
     }
 
-    /// Replaces the entry of a slot, where it is there.
+    /// Replaces the entry of a slot, if it has one.
     #[inline(always)]
     fn set(&mut self, slot: u64, last: u32)
         requires { 0 < last }
@@ -55,7 +61,7 @@ impl Hints {
         }
     }
 
-    /// Adds entries, past this slot's; without memory for that it leaves them.
+    /// Adds entries, past that of this slot. If allocation fails, there are no more entries.
     #[inline(never)]
     fn lengthen(&mut self, slot: u32)
         ensures { (s : ℕ) → entry self.new.last.items s ≡ entry self.old.last.items s }
@@ -65,7 +71,7 @@ impl Hints {
         }
     }
 
-    /// Says that nothing names this slot, where its entry is there.
+    /// Records that no cell names this slot, if it has an entry.
     #[inline(always)]
     fn clear(&mut self, slot: u32)
         ensures { (s : ℕ) → s ≢ slot → 0 < entry self.old.last.items s
@@ -78,7 +84,7 @@ impl Hints {
         }
     }
 
-    /// Replaces the entry of a slot, where it says that nothing names the slot.
+    /// Replaces the entry of a slot that no cell names.
     #[inline(always)]
     fn raise(&mut self, slot: u64, last: u32)
         requires { 0 < last }
@@ -90,8 +96,8 @@ impl Hints {
         }
     }
 
-    /// Sets the entries of what the words of a cell with annotations name, where they say that
-    /// nothing names it: the others lead to cells without annotations, which are looked up by them.
+    /// Sets the entries of the slots that a cell with annotations names, if no other cell names
+    /// them. Other entries lead to cells without annotations, which are looked up by them.
     #[inline(always)]
     fn raise_words(&mut self, kind: u8, a: u64, b: u64, last: u32)
         requires { 0 < last }
@@ -108,8 +114,8 @@ impl Hints {
         }
     }
 
-    /// Sets the entries of what a cell's words name: a list's head keeps one where the tail's leads
-    /// to the cell.
+    /// Sets the entries of the slots that a cell names. That of a list's head is kept if the tail's
+    /// entry leads to the cell.
     #[inline(always)]
     fn cover_words(&mut self, kind: u8, a: u64, b: u64, last: u32)
         requires { 0 < last }
@@ -140,7 +146,7 @@ impl Hints {
         }
     }
 
-    /// Sets the entries of all that a new cell names.
+    /// Sets the entries of all slots that a new cell names.
     #[inline(always)]
     pub(crate) fn cover(&mut self, body: CellBody, slot: u32)
         requires { slot < 4294967295 }
@@ -157,8 +163,8 @@ impl Hints {
         }
     }
 
-    /// 0 where no taken cell has this body, as nothing was made over a slot that it names; or else
-    /// the number of a slot that may hold it, and 1.
+    /// Returns 0 if no taken cell has this body, as no cell was made over a slot that it names.
+    /// Otherwise returns the number of a slot that may have it, plus 1.
     #[inline(always)]
     pub(crate) fn look(&self, body: CellBody) -> u32
         ensures { result ≡ 0 → ¬ (Covers self.now.last.items body) }
@@ -180,7 +186,7 @@ impl Hints {
         }
     }
 
-    /// Whether there are annotations, and nothing was made over them.
+    /// Returns whether there are annotations, and no cell was made over them.
     #[inline(always)]
     fn is_unnamed(&self, anns: Option<Slot>) -> bool
         ensures { IsTrue result → ¬ (CoversSlots self.now.last.items (annotations anns)) }
@@ -191,8 +197,8 @@ impl Hints {
         }
     }
 
-    /// Whether no taken cell has this body, as nothing was made over its annotations, or it is a
-    /// list node's and nothing was made over its head or its tail.
+    /// Returns true only if no taken cell has this body: no cell was made over its annotations, or,
+    /// for a list node, over its head or its tail.
     #[inline(always)]
     pub(crate) fn rules_out(&self, body: CellBody) -> bool
         ensures { IsTrue result → ¬ (Covers self.now.last.items body) }
@@ -201,8 +207,8 @@ impl Hints {
             || body.kind == LIST && (self.get(body.a) == 0 || self.get(body.b) == 0)
     }
 
-    /// The slot by whose entry a body is looked up: the tail of a list, or the head where the tail
-    /// is empty, or the arguments.
+    /// Returns the slot by whose entry a body is looked up: the tail of a list, or the head if the
+    /// tail is empty, or the arguments.
     #[inline(always)]
     fn key(&self, body: CellBody) -> u64 {
         if body.kind == PLACEHOLDER || body.kind == LIST && body.b == u64::from(self.empty) {
@@ -212,7 +218,7 @@ impl Hints {
         }
     }
 
-    /// Remembers where a body lies, unless it has annotations, as such a one is not looked up so.
+    /// Records the slot of a body without annotations; others are not looked up in this way.
     #[inline(always)]
     pub(crate) fn point(&mut self, body: CellBody, slot: u32)
         requires { slot < 4294967295 }

@@ -76,7 +76,7 @@ stays-next a k s ne = ap (cond (marked_at a s) true) (elim (cases_lt s k) [
   | inr le ↦ le-ltb s (k + 1) (omega (arith, le, ne)) ∙ sym (le-ltb s k le)
 ])
 
--- without the slot, where it is not marked
+-- without the slot, if it is not marked
 stays-besides : (a : ArenaState) (k : ℕ) → marked_at a k ≡ false → (s : ℕ) → cond (stays a (k + 1) s) (not (nat_eq s k)) false ≡ stays a k s
 stays-besides a k white s = elim (eqb_tells s k) [
   | inl e ↦ (
@@ -93,7 +93,7 @@ stays-besides a k white s = elim (eqb_tells s k) [
   itself true = refl
   itself false = refl
 
--- a slot that stands in the chain that its hash names
+-- a slot that is in the chain that its hash names
 module _ (a : ArenaState) (k : ℕ) (there : 0 < times k (chain_at a (home a k))) where
   some_chains : (css : List (List ℕ)) (c : ℕ) → 0 < times k (get_or css c []) → 0 < length css
   some_chains [] c h = absurd (omega (arith, h))
@@ -117,7 +117,7 @@ module _ (a : ArenaState) (k : ℕ) (there : 0 < times k (chain_at a (home a k))
     not_itself : not (nat_eq k k) ≡ false
     not_itself = elim (eqb_tells k k) [ inl e ↦ ap not e.0 | inr e ↦ absurd (e.1 refl) ]
 
-    -- it stood there alone, so it is in no chain any more
+    -- it was there alone, so it is in no chain any more
     pub left_loose : IsArena a → IsLoose b k
     left_loose law =
         let count = times_in-set k a.chains (home a k) (besides k (chain_at a (home a k))) home_below in
@@ -125,7 +125,7 @@ module _ (a : ArenaState) (k : ℕ) (there : 0 < times k (chain_at a (home a k))
         let same = ap (times_in k) chains in
         omega (arith, count, gone, same, law.alone k, there)
 
--- the slots from k on are given back where they are not marked, and have left the chains
+-- the slots from k on are freed if they are not marked, and have left the chains
 pub record Sweeping (init : ArenaState) (k : ℕ) (self : ArenaState) : Type 0 where
   pub cells : GivingBack init k self
   pub count : length self.chains ≡ length init.chains
@@ -175,7 +175,7 @@ module _ (init : ArenaState) (k : ℕ) (self : ArenaState) (inv : Sweeping init 
     white : marked_at init k ≡ false
     white = was_unmarked init k self inv.cells yes
 
-    -- the slot stands in the chain that its hash names
+    -- the slot is in the chain that its hash names
     pub sweeping_there : ((s : ℕ) → IsTaken init s → InChain init s) → IsHomed init → 0 < times k (chain_at self (home self k))
     sweeping_there chained homed =
         let t = giving_taken init k self inv.cells yes in

@@ -1,4 +1,4 @@
--- The slots that are not marked leave the chains, and are then given back from the last one on.
+-- The slots that are not marked leave the chains, and are then freed from the last one on.
 use Rattle.std.proofs.Common.{◌≡◌, ◌≢◌, ℕ, ◌+◌, ◌<◌, ◌≤◌, inl, inr, List, [], ◌∷◌, length, get_or, set, map, Some, None, refl, sym, ap, subst, ◌∙◌, arith}
 use Rattle.std.specs.Prelude.{Option, Bool, true, false, cond, not, filter}
 use Rattle.std.proofs.lemmas.List.{length-set, get_or-set_same, get_or-set_other}
@@ -66,7 +66,7 @@ pub unlinked_loose : (old mid : ArenaState) → mid ≡ record old { chains = mi
 unlinked_loose old mid rest chains s m = ap (times_in s) chains
     ∙ times_in-filter_false (λ s. marked_at old s) s old.chains (sym (ap (λ (v : ArenaState). marked_at v s) rest) ∙ m)
 
--- the slots from k on are given back where they are not marked
+-- the slots from k on are freed if they are not marked
 pub record GivingBack (init : ArenaState) (k : ℕ) (self : ArenaState) : Type 0 where
   pub law : IsArena self
   pub gray : self.gray ≡ []

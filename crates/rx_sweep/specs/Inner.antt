@@ -1,2 +1,2 @@
--- What the proofs speak of inside this crate: no public contract cites it.
+-- Definitions that only proofs and contracts inside this crate use.
 pub mod Marking

@@ -1,4 +1,4 @@
-//! The sweep: what is not marked goes back.
+//! Sweeping: slots that are not marked are freed.
 ghost use Rattle.std.specs.Prelude.{◌≡◌, ℕ, ◌+◌, ◌<◌, List, [], length, slice_set, false, None};
 ghost use Rattle.std.specs.Prelude.{map, filter, if◌then◌else◌};
 ghost use Rattle.rx_arena.specs.Put.{times, put};
@@ -10,7 +10,7 @@ ghost use Rattle.rx_sweep.specs.Inner.Marking.{Swept};
 use rx_arena::Slot;
 use rx_arena::arena::Arena;
 
-/// Takes the slots that are not marked out of the chains.
+/// Removes the slots that are not marked from the chains.
 fn unlink(arena: &mut Arena)
     requires no_gray { arena.old.gray ≡ [] }
     ensures chains { arena.new.chains ≡ map (filter (λ s. marked_at arena.old s)) arena.old.chains }
@@ -22,7 +22,7 @@ fn unlink(arena: &mut Arena)
     }
 }
 
-/// Takes a slot that is not marked out of the chain that its hash names, and gives it back.
+/// Removes a slot that is not marked from the chain of its hash, and frees it.
 fn drop_slot(arena: &mut Arena, slot: Slot)
     requires no_gray { arena.old.gray ≡ [] }
     requires taken { IsTaken arena.old slot.0 }
@@ -42,8 +42,8 @@ fn drop_slot(arena: &mut Arena, slot: Slot)
     arena.give_back(slot);
 }
 
-/// Gives back the slots that are not marked, from the last one on, so that the first one is taken
-/// next.
+/// Frees the slots that are not marked, from the last one to the first. So the slots that are taken
+/// next are neighbors.
 fn give_back_unmarked(arena: &mut Arena)
     requires no_gray { arena.old.gray ≡ [] }
     requires loose { (s : ℕ) → marked_at arena.old s ≡ false → IsLoose arena.old s }
@@ -68,7 +68,7 @@ fn give_back_unmarked(arena: &mut Arena)
     }
 }
 
-/// Gives back every slot that is not marked.
+/// Frees every slot that is not marked.
 pub(crate) fn sweep(arena: &mut Arena)
     requires no_gray { arena.old.gray ≡ [] }
     requires chained { (s : ℕ) → IsTaken arena.old s → InChain arena.old s }
@@ -80,7 +80,8 @@ pub(crate) fn sweep(arena: &mut Arena)
     give_back_unmarked(arena);
 }
 
-/// The same in one go over the slots, where each slot stands in the chain that its hash names.
+/// Frees every slot that is not marked, in one pass over the slots, if each slot is in the chain of
+/// its hash.
 pub(crate) fn sweep_by_hash(arena: &mut Arena)
     requires no_gray { arena.old.gray ≡ [] }
     requires homed { IsHomed arena.old }

@@ -63,7 +63,7 @@ module _ (h : Heap) (m : Table) (len n : ℕ) (heap : IsHeap h m len n) where
   pub content-valid : (t : ℕ) (u : Tree) → map.get (content_of h m len n) t ≡ Some u → IsTrue (is_tree u)
   content-valid t u e = valid-tree h m heap.symbols n t u (sym (content-at t) ∙ e)
 
-  -- where no slot holds a cell, none has its tree
+  -- if no slot holds a cell, none has its tree
   pub absent-tree : (x : Cell) (u : Tree) → Says at m x u → ((t : ℕ) → h t ≢ Some x) → (t : ℕ) → map.get (content_of h m len n) t ≢ Some u
   absent-tree x u s nowhere t e =
       let y = cell-of t u e in
@@ -143,7 +143,7 @@ module _ (h g : Heap) (m : Table) (len wide n i : ℕ) (x : Cell) (u : Tree) (he
       | inr p ↦ new-others q p.1 ∙ sym (not_inserted (content_of h m len n) i q u p.1)
     ])
 
--- a content has as many trees as slots at most, and as many where each slot has one
+-- a content has as many trees as slots at most, and as many if each slot has one
 pub len-tabulate-le : (len : ℕ) (f : ℕ → Option Tree) → map.len (tabulate len f) ≤ len
 len-tabulate-le zero f = let e = map.len-empty nat_cmp Tree in omega arith
 len-tabulate-le (suc k) f = put_len (f k) (len-tabulate-le k f) where

@@ -133,7 +133,7 @@ module _ (c : ℕ → Option Tree) (m : Table) where
   pub says : (x : Cell) (u : Tree) → cell_tree c m x ≡ Some u → Says c m x u
   says x u e = noted-says x.node x.notes u e
 
--- two cells of one tree are alike, where each tree stands in one place only
+-- two cells of one tree are alike, if each tree is in one place only
 module _ (c d : ℕ → Option Tree) (m : Table) (one_place : (i j : ℕ) (v : Tree) → c i ≡ Some v → d j ≡ Some v → i ≡ j)
     (one_symbol : (s t : ℕ) (g : Signature) → m s ≡ Some g → m t ≡ Some g → s ≡ t) where
   Notes-alike : (k l : Option ℕ) (anns : Trees) → Notes c k anns → Notes d l anns → k ≡ l
@@ -260,7 +260,7 @@ module _ (h : Heap) (m : Table) where
         | inr q ↦ reaches n q.0 q.1.0 v q.1.1 q.1.2
       ]
 
-  -- a tree stands in one slot only, where no two slots hold the same
+  -- a tree is in one slot only, if no two slots hold the same
   pub one_place : IsDistinct h → IsTable m → (n k s t : ℕ) (u : Tree) → tree_of h m n s ≡ Some u → tree_of h m k t ≡ Some u → s ≡ t
   one_place d q zero k s t u a b = let o = opens h m zero s u a in absurd (omega (arith, o.1.1))
   one_place d q (suc n) k s t u a b =

@@ -1,4 +1,4 @@
--- What makes and reclaims keep.
+-- What makes and collections keep.
 use Rattle.std.proofs.Common.{◌≡◌, ◌<◌, inl, inr, List, Option, Some, IsSome, Contains, refl, sym, ap, ◌∙◌, subst}
 use Rattle.std.specs.FinMap as map
 use Rattle.rx_term.specs.Tree.{Tree}
@@ -36,7 +36,7 @@ Keeps-Refuses work m = same-trees work m.content m.beside
 pub Keeps-Reclaims : {old new : Store} {work : List Term} → Reclaims old new work → Keeps old new work
 Keeps-Reclaims m = record { trees = m.kept; beside = m.beside }
 
--- a make that was refused, and then a reclaim
+-- a make that was refused, and then a collection
 pub Keeps-after-refusal : {old mid new : Store} {tree : Option Tree} {e : BankFault} {work : List Term} → Refuses old mid tree e
     → Reclaims mid new work → Keeps old new work
 Keeps-after-refusal {work = work} r m = Keeps-trans (Keeps-Refuses work r) (Keeps-Reclaims m)
@@ -63,7 +63,7 @@ pub kept-root : {old new : Store} {work : List Term} → Keeps old new work → 
     → tree_at new t ≡ tree_at old t
 kept-root {old = old} k t p h = let x = some-value (tree_at old t) h in k.trees t x.0 x.1 (t, (x.0, inl p, x.1, parts-self x.0)) ∙ sym x.1
 
--- right after a reclaim, a make that is refused for want of cells finds nothing that could be given back
+-- right after a collection, a make that is refused for want of cells finds nothing that could be freed
 pub exhausted : {old mid new : Store} {work : List Term} {tree : Option Tree} → Reclaims old mid work → Refuses mid new tree Full → IsExhausted new work
 exhausted {old = old} {mid = mid} {new = new} {work = work} m r = record {
   full = ap map.len r.content ∙ r.fits ∙ sym r.beside.cap;

@@ -27,7 +27,7 @@ quote = refl
 blank : plain_name (codes "a b") ≡ false
 blank = refl
 
--- the empty name stands without quotes in `()`; every list of bytes may stand in quotes
+-- the empty name stands without quotes in `()`; every list of bytes may be in quotes
 empty_name : is_name [] false ≡ true
 empty_name = refl
 

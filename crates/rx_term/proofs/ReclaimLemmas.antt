@@ -159,7 +159,7 @@ module _ (h : Heap) (m : Table) (len n : ℕ) (heap : IsHeap h m len n) (keep : 
     none_of true e = e
     none_of false e = refl
 
-  -- what a reclaim leaves: the kept references, with their trees
+  -- what a collection leaves: the kept references, with their trees
   module _ (d : ℕ) (w : is_whole (kept_slots keep h) m len d ≡ true) where
     pub kept-content : (t : ℕ) (u : Tree) → keep t ≡ true → map.get (content_of h m len n) t ≡ Some u
         → map.get (content_of (kept_slots keep h) m len d) t ≡ Some u

@@ -1,4 +1,4 @@
--- What follows from the steps of a bank, for those who call one.
+-- What follows from the steps of a store, for those who call one.
 use Rattle.std.proofs.Common.{ℕ, ◌+◌, ◌≡◌, ◌≢◌, ◌⊎◌, Option, Some, None, Result, Ok, Err, IsSome, is_some, refl, sym, ap, ◌∙◌, subst, inl, inr, arith}
 use Rattle.std.proofs.lemmas.Bool.Decides.{eqb_tells, nat_tests}
 use Rattle.std.specs.Ordering.{nat_cmp}
@@ -45,7 +45,7 @@ kept-Makes {old = old} {r = r} m t v h =
       | inr n ↦ m.others t n ∙ h
     ]
 
--- a new symbol keeps what each one stands for
+-- a new symbol keeps what each one represents
 pub kept-Adds : {old new : Store} {g : Signature} {s : Symbol} → Adds old new g s → (t : Symbol) (v : Signature) → signature_of old t ≡ Some v
     → signature_of new t ≡ Some v
 kept-Adds {old = old} {s = s} m t v h =

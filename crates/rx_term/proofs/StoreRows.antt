@@ -44,7 +44,7 @@ tail_of-nothing = refl
 args_of-noted : args_of (Appl (codes "f") false (more a none) (more b none)) ≡ Some (Items (more a none) none)
 args_of-noted = refl
 
--- also where there are none
+-- also if there are none
 args_of-constant : args_of a ≡ Some (Items none none)
 args_of-constant = refl
 
@@ -54,7 +54,7 @@ inner_of-noted = refl
 anns_of-noted : anns_of noted_list ≡ Some (Items (more a none) none)
 anns_of-noted = refl
 
--- where there are none, there is no list of them
+-- if there are none, there is no list of them
 anns_of-bare : anns_of a ≡ None
 anns_of-bare = refl
 
@@ -158,11 +158,11 @@ symbol_is_the_same old new g t m e = m.there (ap is_some e)
 refused_unready : (old new : Store) (tree : Tree) (e : BankFault) (t : Term) → Refuses old new (Some tree) e → (old.spare ≡ 0) × (tree_at old t ≢ Some tree)
 refused_unready old new tree e t h = (h.none_spare, h.absent t)
 
--- a reclaim gives up what is not reached
+-- a collection gives up what is not reached
 unreached_goes : (old new : Store) (t : Term) (tree : Tree) → Reclaims old new [] → (IsReached old [] tree → ⊥) → tree_at new t ≡ Some tree → ⊥
 unreached_goes old new t tree h unreached e = unreached (h.only t tree e).1
 
--- and keeps what is handed in, with its parts
+-- and keeps what is passed in, with its parts
 handed_in_stays : (old new : Store) (t r : Term) → Reclaims old new (r ∷ []) → tree_at old r ≡ Some (Items (more b none) none)
     → tree_at old t ≡ Some b → tree_at new t ≡ Some b
 handed_in_stays old new t r h e k = h.kept t b k (r, (Items (more b none) none, inr (cons_head r []), e, (1, omega arith, refl)))
@@ -223,7 +223,7 @@ hole_kind w t e = record { inside = b; anns = more a none; here = e }
 not_hole_kind : (w : Store) (t : Term) → tree_at w t ≡ Some b → HasKind w t kind.Hole → ⊥
 not_hole_kind w t e h = absurd (cc (e, h.here))
 
--- annotations are answered where there are any, and else none
+-- annotations are answered if there are any, and else none
 no_anns : (w : Store) (t : Term) → tree_at w t ≡ Some a → HasAnns w t None
 no_anns w t e = ap (λ o. option_and_then anns_of o) e
 

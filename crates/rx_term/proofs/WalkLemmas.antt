@@ -138,7 +138,7 @@ module _ (w : Store) (rest inside notes : List Term) (u : Term) (tree : Tree) (h
 pub AllHeld-pushed : (w : Store) (rest inside notes : List Term) → AllHeld w rest → AllHeld w inside → AllHeld w notes → AllHeld w ((rest ++ inside) ++ notes)
 AllHeld-pushed w rest inside notes p q r = AllHeld-append w (rest ++ inside) notes (AllHeld-append w rest inside p q) r
 
--- one turn of a walk: what stands below the top took its place
+-- one turn of a walk: what is below the top took its place
 pub walked : (w : Store) (old rest mid new : List Term) (u : Term) → old ≡ rest ++ u ∷ [] → PushesInside w u rest mid → PushesAnns w u mid new
     → AllHeld w old → AllHeld w new × (length (all_parts w old) ≡ length (all_parts w new) + 1)
 walked w old rest mid new u popped p q held =

@@ -1,10 +1,10 @@
--- What the rows of a bank find.
+-- The results of the test cases for stores.
 use Rattle.std.specs.Prelude.{◌≡◌, pos, Some}
 use Rattle.rx_term.specs.Tree.{Tree, Int, Hole, none, more}
 use Rattle.rx_term.specs.Store.{Store, tree_at}
 use Rattle.rx_term.specs.declared.Term.{Term}
 
--- some reference has the tree
+-- HasTree w u: some reference has the tree
 abbrev pub HasTree : Store → Tree → Type 0
 HasTree w u = (t : Term) × (tree_at w t ≡ Some u)
 

@@ -1,4 +1,4 @@
-//! Trees made in any bank: a constant, and a list of references.
+//! Trees that are made in any store: constants, and lists of references.
 #![tactic(auto, using(crate::proofs::StoreLemmas::bank_steps))]
 
 ghost use Rattle.std.specs.Prelude.{◌≡◌, ◌≤◌, false, IsSome, IfOk, Some, Contains};
@@ -10,7 +10,8 @@ ghost use Rattle.rx_term.specs.Walks.{Lists};
 
 use crate::{BankFault, Term, TermBank};
 
-/// A constant: an unquoted name without arguments.
+/// Returns the constant with this name: an unquoted symbol without arguments. Uses at most two new
+/// cells. Returns `Full` or `Memory` if there is no cell for it.
 pub fn constant<B: TermBank>(bank: &mut B, name: &[u8]) -> Result<Term, BankFault>
     requires { IsAllowed name.now false }
     ensures grows { Grows (B.store bank.old) (B.store bank.new) }
@@ -22,7 +23,8 @@ pub fn constant<B: TermBank>(bank: &mut B, name: &[u8]) -> Result<Term, BankFaul
     bank.appl(sym, nil)
 }
 
-/// The list of some references' trees.
+/// Returns the list of these references' trees. Uses at most one new cell for each item and one for
+/// the empty list. Returns `Full` or `Memory` if there is no cell for it.
 pub fn list<B: TermBank>(bank: &mut B, items: &[Term]) -> Result<Term, BankFault>
     requires { (t : Term) → Contains items.now t → IsSome (tree_at (B.store bank.old) t) }
     ensures grows { Grows (B.store bank.old) (B.store bank.new) }

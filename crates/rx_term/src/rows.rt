@@ -1,4 +1,4 @@
-//! Rows that any bank gives, as calls for the tests of each bank.
+//! Test cases that hold for every store, as functions for the tests of each store.
 #![tactic(auto, using(crate::proofs::StoreLemmas::bank_steps))]
 
 ghost use Rattle.std.specs.Prelude.{◌≡◌, ℕ, ◌+◌, ◌≤◌, ◌<◌, false, IsTrue, IsSome, IfOk, Some, None};
@@ -13,7 +13,7 @@ ghost use Rattle.rx_term.specs.Rows.{HasTree, noted_seven};
 use crate::build::constant;
 use crate::{BankFault, Kind, Term, TermBank};
 
-/// `f(a,a)`, whose two arguments are one reference.
+/// Makes `f(a,a)`. Returns its reference, and whether its two arguments are one reference.
 pub fn pair<B: TermBank>(bank: &mut B) -> Result<(Term, bool), BankFault>
     ensures tree { IfOk result (λ r. tree_at (B.store bank.new) r.0 ≡
         Some (Appl (codes "f") false
@@ -27,7 +27,7 @@ pub fn pair<B: TermBank>(bank: &mut B) -> Result<(Term, bool), BankFault>
     Ok((r, first == second))
 }
 
-/// `f` of two references.
+/// Makes `f` of two references.
 fn apply_f<B: TermBank>(bank: &mut B, first: Term, second: Term) -> Result<Term, BankFault>
     requires first { IsSome (tree_at (B.store bank.old) first) }
     requires second { IsSome (tree_at (B.store bank.old) second) }
@@ -44,8 +44,9 @@ fn apply_f<B: TermBank>(bank: &mut B, first: Term, second: Term) -> Result<Term,
     bank.appl(f, long)
 }
 
-/// Whether the rows hold of two empty banks: of cap 5 and of cap 10. Where they do, the first one
-/// is of that cap and empty again, and the second one has a placeholder of 7 with the annotation 7.
+/// Returns whether the test cases hold for two empty stores with limits of 5 and 10 cells. If they
+/// do, the first store has that limit and is empty again, and the second one has a placeholder of 7
+/// with the annotation 7.
 pub fn hold<B: TermBank>(five: &mut B, ten: &mut B) -> Result<bool, BankFault>
     requires { (t : ℕ) → (B.store five.old).roots t ≡ 0 }
     ensures limit { IfOk result (λ b. IsTrue b → (B.store five.new).cap ≡ 5) }
@@ -58,7 +59,8 @@ pub fn hold<B: TermBank>(five: &mut B, ten: &mut B) -> Result<bool, BankFault>
     }
 }
 
-/// In an empty bank of cap 5: five trees fit, a sixth does not, and a tree that is there is found.
+/// Checks in an empty store with a limit of 5 cells that five trees fit, a sixth does not, and a
+/// tree that is there is found.
 fn fills<B: TermBank>(bank: &mut B) -> Result<Option<Term>, BankFault>
     ensures held { IfOk result (λ r. (a : _) → r ≡ Some a → IsSome (tree_at (B.store bank.new) a)) }
     ensures limit { IfOk result (λ r. IsSome r → (B.store bank.new).cap ≡ 5) }
@@ -78,7 +80,7 @@ fn fills<B: TermBank>(bank: &mut B) -> Result<Option<Term>, BankFault>
     }
 }
 
-/// Whether there is room for five trees, and none for a sixth one.
+/// Returns whether there is room for five trees, and none for a sixth one.
 fn has_room_for_five<B: TermBank>(bank: &mut B) -> Result<bool, BankFault>
     ensures roots { (B.store bank.new).roots ≡ (B.store bank.old).roots }
     ensures limit { (B.store bank.new).cap ≡ (B.store bank.old).cap }
@@ -89,7 +91,7 @@ fn has_room_for_five<B: TermBank>(bank: &mut B) -> Result<bool, BankFault>
     Ok(refused && bank.spare() == 5)
 }
 
-/// Makes `f(a,a)` and what it is made of; the reference of `a`.
+/// Makes `f(a,a)` and its parts, and returns the reference of `a`.
 fn make_five<B: TermBank>(bank: &mut B) -> Result<Term, BankFault>
     ensures roots { (B.store bank.new).roots ≡ (B.store bank.old).roots }
     ensures limit { (B.store bank.new).cap ≡ (B.store bank.old).cap }
@@ -99,7 +101,7 @@ fn make_five<B: TermBank>(bank: &mut B) -> Result<Term, BankFault>
     Ok(a)
 }
 
-/// Roots a term as often as it can be; whether the next time was refused.
+/// Protects a term as often as possible, and returns whether the next time was an error.
 fn root_fully<B: TermBank>(bank: &mut B, a: Term) -> bool
     requires held { IsSome (tree_at (B.store bank.old) a) }
     requires unrooted { (B.store bank.old).roots a.0 ≡ 0 }
@@ -113,7 +115,7 @@ fn root_fully<B: TermBank>(bank: &mut B, a: Term) -> bool
     bank.protect(a).is_err()
 }
 
-/// Unroots a term 65,535 times.
+/// Removes 65,535 protections of a term.
 fn unroot<B: TermBank>(bank: &mut B, a: Term)
     requires { (B.store bank.old).roots a.0 ≡ 65535 }
     ensures roots { (B.store bank.new).roots a.0 ≡ 0 }
@@ -124,8 +126,8 @@ fn unroot<B: TermBank>(bank: &mut B, a: Term)
     }
 }
 
-/// In an empty bank of cap 10: a placeholder of 7 with the annotation list of 7; whether its parts
-/// are as they were made.
+/// Makes a placeholder of 7 with the annotation 7 in an empty store with a limit of 10 cells.
+/// Returns whether its parts are as they were made.
 fn notes<B: TermBank>(bank: &mut B) -> Result<bool, BankFault>
     ensures { IfOk result (λ b. IsTrue b → HasTree (B.store bank.new) noted_seven) }
 {
@@ -136,7 +138,7 @@ fn notes<B: TermBank>(bank: &mut B) -> Result<bool, BankFault>
     Ok(is_list_of_seven(bank, list, seven, nil) && is_noted_hole(bank, noted, seven, list))
 }
 
-/// Whether the list has 7 as its first item and the other list behind it.
+/// Returns whether a list has 7 as its first item, followed by the other list.
 fn is_list_of_seven<B: TermBank>(bank: &B, list: Term, seven: Term, rest: Term) -> bool
     requires seven { IsSome (tree_at (B.store bank.now) seven) }
     requires head { IsSome (part_at head_of (B.store bank.now) list) }
@@ -151,7 +153,7 @@ fn is_list_of_seven<B: TermBank>(bank: &B, list: Term, seven: Term, rest: Term) 
     holds && bank.kind(seven) == Kind::Int(7)
 }
 
-/// A placeholder with annotations.
+/// Makes a placeholder with annotations.
 fn note_hole<B: TermBank>(bank: &mut B, inner: Term, anns: Term) -> Result<Term, BankFault>
     requires inner { IsSome (tree_at (B.store bank.old) inner) }
     requires anns { let w = B.store bank.old in
@@ -164,7 +166,7 @@ fn note_hole<B: TermBank>(bank: &mut B, inner: Term, anns: Term) -> Result<Term,
     bank.annotated(hole, anns)
 }
 
-/// Whether the tree is a placeholder of one reference with annotations at the other.
+/// Returns whether a tree is a placeholder of one reference, with annotations at the other.
 fn is_noted_hole<B: TermBank>(bank: &B, tree: Term, inner: Term, anns: Term) -> bool
     requires tree { IsSome (tree_at (B.store bank.now) tree) }
     requires hole { IsSome (part_at inner_of (B.store bank.now) tree) }
@@ -177,8 +179,8 @@ fn is_noted_hole<B: TermBank>(bank: &B, tree: Term, inner: Term, anns: Term) -> 
     holds && bank.kind(tree) == Kind::Hole
 }
 
-/// Of a bank with `a` and what it is made of: what stays while `a` is rooted as often as it can be,
-/// and after.
+/// Checks which cells a collection keeps while `a` is protected as often as possible, and after
+/// that.
 fn reclaims<B: TermBank>(bank: &mut B, a: Term) -> bool
     requires held { IsSome (tree_at (B.store bank.old) a) }
     requires unrooted { (B.store bank.old).roots a.0 ≡ 0 }

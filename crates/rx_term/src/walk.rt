@@ -10,8 +10,8 @@ ghost use Rattle.rx_term.specs.Walks.{PushesInside, PushesAnns};
 use crate::{Kind, Term, TermBank};
 use std::alloc::{AllocError, Global};
 
-/// How many nodes a tree has, each counted as often as it occurs; the largest number where there
-/// are more.
+/// Returns the number of parts of a tree, each counted as often as it occurs, or `u64::MAX` if
+/// there are more. Takes time linear in that number. Returns an error if an allocation failed.
 pub fn count_nodes<B: TermBank>(alloc: Global, bank: &B, t: Term) -> Result<u64, AllocError>
     requires { IsSome (tree_at (B.store bank.now) t) }
     ensures { IfOk result (λ n. Some n ≡
@@ -29,7 +29,7 @@ pub fn count_nodes<B: TermBank>(alloc: Global, bank: &B, t: Term) -> Result<u64,
     Ok(count)
 }
 
-/// Pushes what stands below a node, but for its annotations.
+/// Pushes the parts directly below the root of a tree, except its annotations.
 pub fn push_inside<B: TermBank>(bank: &B, u: Term, stack: &mut Vec<Term>) -> Result<(), AllocError>
     requires { IsSome (tree_at (B.store bank.now) u) }
     ensures { OnOk result (PushesInside (B.store bank.now) u stack.old.items stack.new.items) }
@@ -53,7 +53,7 @@ pub fn push_inside<B: TermBank>(bank: &B, u: Term, stack: &mut Vec<Term>) -> Res
     }
 }
 
-/// Pushes the annotations of a node.
+/// Pushes the annotation list of a tree, if there is one.
 pub fn push_anns<B: TermBank>(bank: &B, u: Term, stack: &mut Vec<Term>) -> Result<(), AllocError>
     requires { IsSome (tree_at (B.store bank.now) u) }
     ensures { OnOk result (PushesAnns (B.store bank.now) u stack.old.items stack.new.items) }

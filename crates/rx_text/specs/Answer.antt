@@ -1,4 +1,4 @@
--- What the reader's first pass answers.
+-- The result of parsing a text into nodes.
 use Rattle.std.specs.Prelude.{◌≡◌, ℕ, List, [], ◌∷◌, map}
 use Rattle.std.specs.List.{AllByRecursion}
 use Rattle.rx_term.specs.Tree.{Tree}
@@ -10,17 +10,17 @@ use Rattle.rx_text.specs.declared.nodes.Node.{Node}
 use Rattle.rx_text.specs.declared.faults.TextFault.{TextFault}
 use Rattle.rx_text.specs.declared.faults.TextFault.TheVariants.{Long, Grammar, Memory, Full}
 
--- the nodes make this tree and no other
+-- AreNodesOf bytes ns t: the nodes make this tree and no other
 pub record AreNodesOf (bytes : List ℕ) (ns : List Node) (t : Tree) : Type 0 where
   pub alone : made_of bytes ns ≡ t ∷ []
   pub enough : Enough [] (map (node_of bytes) ns)
   pub names : AllByRecursion (IsNode bytes) ns
 
--- they are those of the tree that the bytes spell
+-- AreRead bytes ns: the nodes make the tree that the bytes spell
 abbrev pub AreRead : List ℕ → List Node → Type 0
 AreRead bytes ns = (t : Tree) × Spells bytes t × AreNodesOf bytes ns t
 
--- the place of a fault, or that memory ran out
+-- IsFault bytes fault: the error is a syntax error at its offset, or out of memory
 abbrev pub IsFault : List ℕ → TextFault → Type 0
 IsFault bytes Long = ⊥
 IsFault bytes (Grammar at) = IsFaultPlace bytes at

@@ -1,4 +1,4 @@
--- What may stand at the place of a fault.
+-- The expected tokens at the offset of a syntax error.
 use Rattle.std.specs.Prelude.{◌≡◌, ◌↔◌, ℕ, ℤ, pos, Bool, false, List, [], ◌∷◌, ◌++◌, map, Contains}
 use Rattle.std.specs.Prelude.{Option, Some, None, is_some}
 use Rattle.rx_text.specs.Token as tokens
@@ -17,7 +17,7 @@ use Rattle.rx_text.specs.declared.token_kind.TokenKind.TheVariants.{Greater, Com
 use Rattle.rx_text.specs.declared.reader.Due.{Due}
 use Rattle.rx_text.specs.declared.reader.Reader.{Reader}
 
--- the tokens of a kind
+-- IsOf k t: the token has this kind
 abbrev pub IsOf : TokenKind → Token → Type 0
 IsOf Integer t = (z : ℤ) × (t ≡ tokens.Integer z)
 IsOf Name t = (name : List ℕ) × (quoted : Bool) × (t ≡ tokens.Name name quoted)
@@ -32,26 +32,26 @@ IsOf Greater t = t ≡ tokens.Greater
 IsOf Comma t = t ≡ tokens.Comma
 IsOf End t = t ≡ tokens.End
 
--- some text of the grammar has a token of this kind behind these tokens
+-- MayStand before k: some valid text has a token of this kind after these tokens
 abbrev pub MayStand : List Token → TokenKind → Type 0
 MayStand before k = (t : Token) × IsOf k t × CanGoOn (before ++ t ∷ [])
 
--- the tokens before a fault's place
+-- before bytes at place: the tokens before the offset of the syntax error
 abbrev pub before : (bytes : List ℕ) (at : ℕ) → IsFaultPlace bytes at → List Token
 before bytes at place = map (λ t. t.1) place.0
 
--- these are exactly the kinds of the tokens that some text has at the fault's place, behind the
--- tokens before it
+-- AreExpected bytes ks: `ks` are exactly the kinds of tokens that valid texts have at the offset of
+-- the syntax error, after the tokens before it
 abbrev pub AreExpected : List ℕ → List TokenKind → Type 0
 AreExpected bytes ks = (at : ℕ) (place : IsFaultPlace bytes at) (k : TokenKind)
     → Contains ks k ↔ MayStand (before bytes at place) k
 
--- a token's kind; a bad token has none
+-- IsKindOf k t: the kind of a token; a bad token has none
 abbrev pub IsKindOf : Option TokenKind → LexemeKind → Type 0
 IsKindOf None t = t ≡ LexemeKind.Bad
 IsKindOf (Some k) t = (bytes : List ℕ) → IsOf k (token_of bytes t)
 
--- a token of a kind
+-- sample k: a token of this kind
 abbrev pub sample : TokenKind → Token
 sample Integer = tokens.Integer (pos 0)
 sample Name = tokens.Name [] false
@@ -66,11 +66,12 @@ sample Greater = tokens.Greater
 sample Comma = tokens.Comma
 sample End = tokens.End
 
--- whether the machine takes a token of this kind
+-- is_taken step k: whether the machine accepts a token of this kind
 abbrev pub is_taken : (Token → Option State) → TokenKind → Bool
 is_taken step k = is_some (step (sample k))
 
--- the reader's state is the one behind the tokens before the fault
+-- IsAtFault bytes d r: the parser has the state of the machine after the tokens before the syntax
+-- error
 abbrev pub IsAtFault : List ℕ → Due → Reader → Type 0
 IsAtFault bytes d r = (at : ℕ) (place : IsFaultPlace bytes at)
     → run (before bytes at place) machine.AtTerm []

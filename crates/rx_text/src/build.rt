@@ -1,4 +1,4 @@
-//! A tree is made in a bank from its nodes.
+//! Builds a tree in a term store from the nodes of a text.
 
 ghost use Rattle.std.specs.Prelude.{◌≡◌, ◌≤◌, ◌++◌, ◌∷◌, [], List, length, drop, Some, IfOk, IfErr};
 ghost use Rattle.rx_term.specs.Tree.{Tree, list_of};
@@ -16,7 +16,7 @@ use crate::quoted_name::read_quoted;
 use rx_term::{BankFault, Symbol, Term, TermBank};
 use std::alloc::Global;
 
-/// The list of the last so many references, which it takes away.
+/// Removes the last `count` references and returns a list of them.
 fn take_list<B: TermBank>(made: &mut Vec<Term>, count: u32, bank: &mut B) -> Result<Term, BankFault>
     requires held { (trees : List Tree) × Holds (B.store bank.old) made.old.items trees
         × (count ≤ length trees) }
@@ -35,7 +35,7 @@ fn take_list<B: TermBank>(made: &mut Vec<Term>, count: u32, bank: &mut B) -> Res
     Ok(list)
 }
 
-/// The symbol of a name and a number of arguments.
+/// Returns the symbol with the name of a word and this number of arguments.
 fn symbol_of<B: TermBank>(
     alloc: Global,
     bytes: &[u8],
@@ -59,7 +59,7 @@ fn symbol_of<B: TermBank>(
     }
 }
 
-/// The application of a name to the last so many references.
+/// Applies a name to the last `count` references.
 #[inline]
 fn make_application<B: TermBank>(
     bytes: &[u8],
@@ -83,7 +83,7 @@ fn make_application<B: TermBank>(
     Ok(bank.appl(symbol, args)?)
 }
 
-/// The placeholder of the last reference.
+/// Makes a placeholder of the last reference.
 #[inline]
 fn make_placeholder<B: TermBank>(made: &mut Vec<Term>, bank: &mut B) -> Result<Term, TextFault>
     requires held { (trees : List Tree) × Holds (B.store bank.old) made.old.items trees
@@ -98,7 +98,7 @@ fn make_placeholder<B: TermBank>(made: &mut Vec<Term>, bank: &mut B) -> Result<T
     Ok(bank.hole(inner)?)
 }
 
-/// The tree below the last so many references, with these as its annotations.
+/// Annotates the reference below the last `count` ones with these.
 #[inline]
 fn make_annotated<B: TermBank>(
     count: u32,
@@ -118,7 +118,7 @@ fn make_annotated<B: TermBank>(
     Ok(bank.annotated(term, anns)?)
 }
 
-/// The tree of a node, whose parts are the last references.
+/// Makes the tree of a node, whose parts are the last references.
 fn make<B: TermBank>(
     bytes: &[u8],
     node: Node,
@@ -143,7 +143,7 @@ fn make<B: TermBank>(
     }
 }
 
-/// Makes the tree of the nodes.
+/// Builds the tree of a list of nodes.
 pub fn build<B: TermBank>(
     alloc: Global,
     bytes: &[u8],

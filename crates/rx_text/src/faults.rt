@@ -1,4 +1,4 @@
-//! Why a text is not read or written.
+//! The errors of reading and printing.
 
 ghost use Rattle.std.specs.Prelude.{◌≡◌};
 
@@ -6,19 +6,20 @@ use rx_term::BankFault;
 use std::alloc::{AllocError, AllocFailed};
 use thiserror::Error;
 
-/// Why no tree was read.
+/// Why a text was not read.
 #[derive(Clone, Copy, PartialEq, Eq, Debug, Drop, Error)]
 pub enum TextFault {
     /// The text has more than 16,777,216 bytes.
     #[error("the text is too long")]
     Long,
-    /// The text is outside the grammar, from the token at this offset on.
+    /// The text has a syntax error: the token at this offset is the first that no valid text has
+    /// there.
     #[error("the text is outside the grammar at {at}")]
     Grammar { at: u32 },
-    /// Memory ran out.
+    /// An allocation failed.
     #[error("out of memory")]
     Memory,
-    /// The bank has as many cells as it may have.
+    /// The term store is full.
     #[error("out of cells")]
     Full,
 }
@@ -56,23 +57,23 @@ impl From<BankFault> for TextFault {
     }
 }
 
-/// The writer refused a text, or took nothing of it.
+/// The writer returned an error, or accepted no byte of a text.
 #[derive(Clone, Copy, PartialEq, Eq, Debug, Drop, Error)]
 #[error("the text was not written")]
 pub struct RefusedWrite;
 
-/// The reader answered an error.
+/// The reader returned an error.
 #[derive(Clone, Copy, PartialEq, Eq, Debug, Drop, Error)]
 #[error("the text was not read")]
 pub struct RefusedRead;
 
-/// Why a tree was not printed.
+/// Why a term was not printed completely.
 #[derive(Clone, Copy, PartialEq, Eq, Debug, Drop, Error)]
 pub enum WriteFault {
-    /// Memory ran out.
+    /// An allocation failed.
     #[error("out of memory")]
     Memory,
-    /// The writer refused.
+    /// The writer failed.
     #[error("the text was not written")]
     Write,
 }

@@ -1,14 +1,15 @@
-//! A reader that is asked no more once it has refused.
+//! A reader that is not used again after it has failed.
 
-ghost use Rattle.std.specs.Prelude.{◌≡◌};
+ghost use Rattle.std.specs.Prelude.{◌≡◌, IsErr};
 ghost use Rattle.std.specs.Io.{ReadsAtMost};
 ghost use Rattle.std.specs.Io.KnownBytes.{ReadConsumes};
-ghost use Rattle.rx_text.specs.Input.{remaining_in, IsReadable, IsSameInput, TellsRefusedRead};
+ghost use Rattle.rx_text.specs.Input.{remaining_in, HasRefusedRead, IsReadable, ReportsRefusedRead};
 
 use crate::faults::RefusedRead;
 use std::io::Read;
 
-/// A reader, and whether it has refused: answered an error. After that no call may ask it again.
+/// A reader, and whether it has failed, that is, returned an error. After a failure the reader is
+/// not called again, and each read returns the error at once.
 pub struct Input<'a, R> {
     reader: &'a mut R,
     refused: bool,
@@ -26,7 +27,7 @@ impl<R> Drop for Input<'_, R> {
 }
 
 impl<'a, R: Read> Input<'a, R> {
-    /// A reader that has not refused.
+    /// Wraps a reader that has not failed.
     pub fn new(reader: &'a mut R) -> Input<'a, R>
         ensures same { result.reader.ghost_name ≡ reader.entry.ghost_name }
         ensures now { result.reader.now ≡ reader.old }
@@ -39,16 +40,18 @@ impl<'a, R: Read> Input<'a, R> {
         }
     }
 
-    /// One read: how many bytes at the front of the buffer were read. Each error is a refusal, also
-    /// an interruption.
+    /// Calls the reader once. Returns the number of bytes that it stored at the start of the
+    /// buffer. Each error is final, including an interruption.
     pub fn read(&mut self, buffer: &mut [u8]) -> Result<usize, RefusedRead>
-        requires { IsReadable self.old }
         ensures bound { ReadsAtMost result buffer.new }
         ensures bytes { ReadConsumes (remaining_in R.remaining self.old)
             (remaining_in R.remaining self.new) result buffer.new }
-        ensures same { IsSameInput self.old self.new }
-        ensures cause { TellsRefusedRead self.new result }
+        ensures reports { ReportsRefusedRead self.old self.new result }
+        ensures sticky { HasRefusedRead self.old → IsErr result × (self.new ≡ self.old) }
     {
+        if self.refused {
+            return Err(RefusedRead);
+        }
         match self.reader.read(buffer) {
             Ok(count) => Ok(count),
             Err(_) => {

@@ -1,4 +1,4 @@
-//! The tokens of a text.
+//! Splits a text into tokens.
 
 ghost use Rattle.std.specs.Prelude.{◌≡◌, ℕ, ◌+◌, ◌-◌, ◌<◌, ◌≤◌, ◌^◌, ◌∷◌, List, Bool, true, false};
 ghost use Rattle.std.specs.Prelude.{cond, length, drop, min, slice_index, pos, neg_ℤ};
@@ -15,7 +15,7 @@ use crate::nodes::Word;
 use crate::quoted_name::quoted_length;
 use rx_term::naming::{begins_plain_name, continues_plain_name};
 
-/// What a token is.
+/// The content of a token.
 #[derive(Clone, Copy, Drop)]
 pub enum LexemeKind {
     Integer(i32),
@@ -33,7 +33,7 @@ pub enum LexemeKind {
     End,
 }
 
-/// A token, the offset at which it begins, and the offset behind it.
+/// A token with the offsets of its first byte and of the byte after it.
 #[derive(Clone, Copy, Drop)]
 pub struct Lexeme {
     pub kind: LexemeKind,
@@ -41,21 +41,21 @@ pub struct Lexeme {
     pub to: usize,
 }
 
-/// Whether the byte stands between tokens.
+/// Returns whether a byte is layout.
 fn is_blank(byte: u8) -> bool
     ensures { result ≡ is_layout byte }
 {
     byte == b' ' || byte == b'\t' || byte == b'\n' || byte == b'\r'
 }
 
-/// Whether the byte is an ASCII digit.
+/// Returns whether a byte is an ASCII digit.
 fn is_decimal(byte: u8) -> bool
     ensures { result ≡ is_digit byte }
 {
     byte >= b'0' && byte <= b'9'
 }
 
-/// The first offset from `from` on at which no layout stands.
+/// Returns the first offset, at least `from`, at which there is no layout.
 #[inline(always)]
 fn after_layout(bytes: &[u8], from: usize) -> usize
     requires { from ≤ length bytes.now }
@@ -71,7 +71,7 @@ fn after_layout(bytes: &[u8], from: usize) -> usize
     at
 }
 
-/// The end of the digits that stand from `from` on.
+/// Returns the end of the digits that start at `from`.
 fn digits_end(bytes: &[u8], from: usize) -> usize
     requires { from ≤ length bytes.now }
     ensures above { from ≤ result }
@@ -85,7 +85,7 @@ fn digits_end(bytes: &[u8], from: usize) -> usize
     end
 }
 
-/// The end of the bytes that go on a name from `from` on.
+/// Returns the end of the bytes that continue a plain name, starting at `from`.
 #[inline(always)]
 fn name_end(bytes: &[u8], from: usize) -> usize
     requires { from ≤ length bytes.now }
@@ -100,7 +100,7 @@ fn name_end(bytes: &[u8], from: usize) -> usize
     end
 }
 
-/// The number that the digits write, or the greatest number where that is greater.
+/// Returns the value of some digits, or the greatest `u32` if the value is greater.
 fn magnitude(digits: &[u8]) -> u32
     requires { AreDigits digits.now }
     ensures { result ≡ min (digits_value 10 digits.now) (2 ^ 32 - 1) }
@@ -114,7 +114,7 @@ fn magnitude(digits: &[u8]) -> u32
     value
 }
 
-/// The integer of a sign and a magnitude, or a bad token where it is none of 32 bits.
+/// Returns the token of an integer, or a bad token if it does not fit 32 bits with a sign.
 fn integer(magnitude: u32, negative: bool) -> LexemeKind
     ensures token { (bytes : List ℕ) → token_of bytes result ≡ integer_token
         (cond negative (neg_ℤ (pos magnitude)) (pos magnitude)) }
@@ -131,7 +131,8 @@ fn integer(magnitude: u32, negative: bool) -> LexemeKind
     }
 }
 
-/// The name between quotes whose first quote stands before `from`, or a bad token.
+/// Returns the token of a quoted name whose first byte after the quote is at `from`, and its end.
+/// If the name is not valid, this is a bad token.
 fn quoted_word(bytes: &[u8], from: usize) -> (LexemeKind, usize)
     requires from { from ≤ length bytes.now }
     requires short { length bytes.now ≤ longest }
@@ -155,7 +156,7 @@ fn quoted_word(bytes: &[u8], from: usize) -> (LexemeKind, usize)
     }
 }
 
-/// The mark that a byte is, or a bad token.
+/// Returns the token of a punctuation mark, or a bad token for any other byte.
 #[inline(always)]
 fn mark_of(byte: u8) -> LexemeKind
     ensures token { (bytes : List ℕ) → token_of bytes result ≡ mark byte }
@@ -175,7 +176,7 @@ fn mark_of(byte: u8) -> LexemeKind
     }
 }
 
-/// The token that begins at `at`, and its end.
+/// Returns the token that starts at `at`, and its end.
 #[inline(always)]
 fn token(bytes: &[u8], at: usize) -> (LexemeKind, usize)
     requires at { at < length bytes.now }
@@ -210,7 +211,7 @@ fn token(bytes: &[u8], at: usize) -> (LexemeKind, usize)
     }
 }
 
-/// The first token from `from` on.
+/// Returns the first token at or after `from`.
 #[inline(always)]
 pub fn next(bytes: &[u8], from: usize) -> Lexeme
     requires from { from ≤ length bytes.now }

@@ -1,11 +1,10 @@
-//! Names and integers are written.
+//! Writes names and integers.
 
 ghost use Rattle.std.specs.Prelude.{OnOk};
 ghost use Rattle.std.specs.Prelude.{OnErr};
 ghost use Rattle.std.specs.Fmt.{signed_decimal};
 ghost use Rattle.rx_text.specs.Canon.{octal_text, quoted_byte, name_text};
-ghost use Rattle.rx_text.specs.Output.{IsSameOutput, IsWritable};
-ghost use Rattle.rx_text.specs.Output.{TellsRefusal, Writes, WritesFront};
+ghost use Rattle.rx_text.specs.Output.{ReportsRefusal, Writes, WritesFront};
 
 use crate::faults::RefusedWrite;
 use crate::output::Output;
@@ -14,11 +13,9 @@ use std::io::Write;
 
 /// Writes a backslash and three octal digits.
 fn put_octal<W: Write>(out: &mut Output<'_, W>, byte: u8) -> Result<(), RefusedWrite>
-    requires { IsWritable out.old }
     ensures written { OnOk result (Writes W.contents out.old out.new (octal_text byte)) }
     ensures front { OnErr result (WritesFront W.contents out.old out.new (octal_text byte)) }
-    ensures same { IsSameOutput out.old out.new }
-    ensures cause { TellsRefusal out.new result }
+    ensures reports { ReportsRefusal out.old out.new result }
 {
     let digits = [
         b'\\',
@@ -29,13 +26,11 @@ fn put_octal<W: Write>(out: &mut Output<'_, W>, byte: u8) -> Result<(), RefusedW
     out.put(&digits)
 }
 
-/// Writes one byte of a quoted name.
+/// Writes one byte of a quoted name, escaped if necessary.
 fn put_quoted_byte<W: Write>(out: &mut Output<'_, W>, byte: u8) -> Result<(), RefusedWrite>
-    requires { IsWritable out.old }
     ensures written { OnOk result (Writes W.contents out.old out.new (quoted_byte byte)) }
     ensures front { OnErr result (WritesFront W.contents out.old out.new (quoted_byte byte)) }
-    ensures same { IsSameOutput out.old out.new }
-    ensures cause { TellsRefusal out.new result }
+    ensures reports { ReportsRefusal out.old out.new result }
 {
     if byte == b'"' || byte == b'\\' {
         out.put(&[b'\\', byte])
@@ -52,18 +47,16 @@ fn put_quoted_byte<W: Write>(out: &mut Output<'_, W>, byte: u8) -> Result<(), Re
     }
 }
 
-/// Writes a name, between quotes where it is quoted.
+/// Writes a name, between quotes if it is quoted.
 pub(crate) fn put_name<W: Write>(
     out: &mut Output<'_, W>,
     name: &[u8],
     quoted: bool,
 ) -> Result<(), RefusedWrite>
-    requires { IsWritable out.old }
     ensures written { OnOk result (Writes W.contents out.old out.new (name_text name.now quoted)) }
     ensures front { OnErr result (WritesFront W.contents out.old out.new
         (name_text name.now quoted)) }
-    ensures same { IsSameOutput out.old out.new }
-    ensures cause { TellsRefusal out.new result }
+    ensures reports { ReportsRefusal out.old out.new result }
 {
     if !quoted {
         return out.put(name);
@@ -77,11 +70,9 @@ pub(crate) fn put_name<W: Write>(
 
 /// Writes an integer.
 pub(crate) fn put_integer<W: Write>(out: &mut Output<'_, W>, value: i32) -> Result<(), RefusedWrite>
-    requires { IsWritable out.old }
     ensures written { OnOk result (Writes W.contents out.old out.new (signed_decimal value)) }
     ensures front { OnErr result (WritesFront W.contents out.old out.new (signed_decimal value)) }
-    ensures same { IsSameOutput out.old out.new }
-    ensures cause { TellsRefusal out.new result }
+    ensures reports { ReportsRefusal out.old out.new result }
 {
     let mut buffer = Buffer::new();
     out.put(buffer.format(value).as_bytes())

@@ -1,6 +1,6 @@
-//! A tree as a flat list of nodes, each behind those of its parts.
+//! A tree as a flat list of nodes, each after those of its parts.
 
-/// Where a name stands in the text: its bytes, or what stands between its quotes.
+/// The range of a name in the text: its bytes, or those between its quotes.
 #[derive(Clone, Copy, Drop)]
 pub struct Word {
     pub from: u32,
@@ -9,7 +9,7 @@ pub struct Word {
 }
 
 impl Word {
-    /// The empty name without quotes.
+    /// The empty plain name.
     pub const EMPTY: Word = Word {
         from: 0,
         to: 0,
@@ -17,17 +17,17 @@ impl Word {
     };
 }
 
-/// What is made of the newest trees.
+/// A node. It is applied to the newest trees.
 #[derive(Clone, Copy, Drop)]
 pub enum Node {
-    /// An integer, of none.
+    /// An integer. Takes no tree.
     Integer(i32),
-    /// The application of a name to so many.
+    /// The application of a name to this number of trees.
     Application(Word, u32),
-    /// The list of so many.
+    /// The list of this number of trees.
     List(u32),
-    /// The placeholder of one.
+    /// The placeholder of one tree.
     Placeholder,
-    /// The tree below so many, with these as its annotations.
+    /// Annotates the tree below this number of trees with them.
     Annotations(u32),
 }

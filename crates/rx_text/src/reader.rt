@@ -1,4 +1,4 @@
-//! The reader: a stack of what is open, and the nodes of what is read.
+//! The parser: a stack of open groups, and the nodes that were read.
 
 ghost use Rattle.std.specs.Prelude.{◌≡◌, ◌+◌, ◌<◌, ◌≤◌, length, reverse, IfOk, MatchResult};
 ghost use Rattle.rx_text.specs.Lexemes.{token_of, IsToken};
@@ -17,7 +17,7 @@ use crate::nodes::{Node, Word};
 pub use expected::expected_at_fault;
 use std::alloc::{AllocFailed, Global};
 
-/// What is open.
+/// An open group: arguments, a list, a placeholder or annotations.
 #[derive(Clone, Copy, Drop)]
 pub enum Opening {
     Arguments(Word),
@@ -26,15 +26,16 @@ pub enum Opening {
     Annotations,
 }
 
-/// What is open, and how many items of it are read.
+/// An open group, and the number of its items so far.
 #[derive(Clone, Copy, Drop)]
 pub struct Frame {
     opening: Opening,
     count: u32,
 }
 
-/// What is due next: a term; a term or the end of what was just opened; what follows a name, a body
-/// or a term; nothing.
+/// The state of the parser, by its input so far: a term is next; a term or the end of the group
+/// that was just opened is next; after a name; after a body; after a term with its annotations; at
+/// the end of the text.
 #[derive(Clone, Copy, Drop)]
 pub enum Due {
     AtTerm,
@@ -45,7 +46,7 @@ pub enum Due {
     Done,
 }
 
-/// Why a step is not made.
+/// Why a token was not read.
 #[derive(Clone, Copy, Drop)]
 pub enum Stop {
     Refused,
@@ -62,7 +63,7 @@ impl<T: Drop> From<AllocFailed<T>> for Stop {
     }
 }
 
-/// The text, what is open in it, and the nodes that are read.
+/// The parser: the text, the stack of open groups, and the nodes that were read.
 #[derive(Drop)]
 pub struct Reader<'a> {
     bytes: &'a [u8],
@@ -71,7 +72,7 @@ pub struct Reader<'a> {
 }
 
 impl<'a> Reader<'a> {
-    /// Where a term is due.
+    /// Reads a token at the start of a term.
     #[inline(always)]
     fn start(&mut self, token: LexemeKind) -> Result<Due, Stop>
         requires state { IsAt Due.AtTerm self.old }
@@ -101,7 +102,7 @@ impl<'a> Reader<'a> {
         }
     }
 
-    /// What was open, and is no longer on the stack, ends at its mark.
+    /// Reads the mark that closes a group, which is no longer on the stack.
     #[inline(always)]
     fn close(&mut self, frame: Frame, token: LexemeKind) -> Result<Due, Stop>
         requires stack { IsStack self.old.bytes.now (held frame.opening frame.count)
@@ -143,7 +144,7 @@ impl<'a> Reader<'a> {
         }
     }
 
-    /// Behind the mark that opened something: its end, or its first item.
+    /// Reads the first token of a group: its end, or the start of its first item.
     #[inline(always)]
     fn first(&mut self, opening: Opening, token: LexemeKind) -> Result<Due, Stop>
         requires state { IsAt (Due.First opening) self.old }
@@ -166,7 +167,7 @@ impl<'a> Reader<'a> {
         }
     }
 
-    /// One more item of what is open, and a comma.
+    /// Counts one more item of the open group, after a comma.
     #[inline(always)]
     fn next_item(&mut self) -> Result<Due, Stop>
         requires state { IsAt Due.Whole self.old }
@@ -188,7 +189,7 @@ impl<'a> Reader<'a> {
         Ok(Due::AtTerm)
     }
 
-    /// One more item of what is open, and a mark that ends it.
+    /// Counts one more item of the open group, and reads the mark that closes it.
     #[inline(always)]
     fn end_item(&mut self, token: LexemeKind) -> Result<Due, Stop>
         requires state { IsAt Due.Whole self.old }
@@ -213,7 +214,7 @@ impl<'a> Reader<'a> {
         self.close(longer, token)
     }
 
-    /// The end of a placeholder.
+    /// Ends a placeholder.
     #[inline(always)]
     fn end_placeholder(&mut self) -> Result<Due, Stop>
         requires state { IsAt Due.Whole self.old }
@@ -232,7 +233,7 @@ impl<'a> Reader<'a> {
         Ok(Due::Body)
     }
 
-    /// Behind a term with its annotations.
+    /// Reads a token after a term with its annotations.
     #[inline(always)]
     fn whole(&mut self, token: LexemeKind) -> Result<Due, Stop>
         requires state { IsAt Due.Whole self.old }
@@ -259,7 +260,7 @@ impl<'a> Reader<'a> {
         }
     }
 
-    /// Behind a term to which annotations may come.
+    /// Reads a token after a term that may have annotations.
     #[inline(always)]
     fn body(&mut self, token: LexemeKind) -> Result<Due, Stop>
         requires state { IsAt Due.Body self.old }
@@ -275,7 +276,7 @@ impl<'a> Reader<'a> {
         }
     }
 
-    /// Behind a name.
+    /// Reads a token after a name.
     #[inline(always)]
     fn after_name(&mut self, word: Word, token: LexemeKind) -> Result<Due, Stop>
         requires state { IsAt (Due.Named word) self.old }
@@ -295,7 +296,7 @@ impl<'a> Reader<'a> {
         }
     }
 
-    /// The next token.
+    /// Reads the next token, in any state.
     #[inline(always)]
     fn step(&mut self, due: Due, token: LexemeKind) -> Result<Due, Stop>
         requires state { IsAt due self.old }
@@ -316,7 +317,7 @@ impl<'a> Reader<'a> {
     }
 }
 
-/// The nodes of the tree that the bytes spell.
+/// Parses a text into nodes.
 pub fn read_nodes(alloc: Global, bytes: &[u8]) -> Result<Vec<Node>, TextFault>
     requires { length bytes.now ≤ longest }
     ensures { MatchResult result (λ nodes. AreRead bytes.now nodes.items) (IsFault bytes.now) }

@@ -1,4 +1,4 @@
-//! Reading a text into a bank.
+//! Reads a text into a term store.
 
 ghost use Rattle.std.specs.Prelude.{◌≡◌, ◌↔◌, ℕ, Some, IfOk, IfErr, IsErrOf};
 ghost use Rattle.rx_term.specs.Tree.{Tree};
@@ -13,10 +13,15 @@ use crate::reader::read_nodes;
 use rx_term::{Term, TermBank};
 use std::alloc::Global;
 
-/// The most bytes that a text may have.
+/// The greatest length of a text, in bytes.
 pub const LONGEST: usize = 16_777_216;
 
-/// Makes the tree that the bytes spell in the bank.
+/// Parses a text into a term store, and returns its term.
+///
+/// Returns `Long` if the text has more than [`LONGEST`] bytes, `Grammar` with the offset of the
+/// first token that no valid text has there, `Memory` if an allocation failed, and `Full` if the
+/// store is full. Only adds terms; after `Long` and `Grammar` the store is unchanged. Takes
+/// expected time in proportion to the text.
 pub fn read<B: TermBank>(alloc: Global, bytes: &[u8], bank: &mut B) -> Result<Term, TextFault>
     ensures spelt { IfOk result (λ t. (u : Tree) × (tree_at (B.store bank.new) t ≡ Some u)
         × IsVerdict bytes.now (Spelt u)) }

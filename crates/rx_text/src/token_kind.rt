@@ -1,4 +1,4 @@
-//! The kinds of tokens that the grammar has.
+//! The kinds of tokens of the grammar.
 
 ghost use Rattle.std.specs.Prelude.{List};
 ghost use Rattle.rx_text.specs.Expected.{IsKindOf};
@@ -6,12 +6,12 @@ ghost use Rattle.rx_text.specs.Lexemes.{token_of};
 
 use crate::lexer::LexemeKind;
 
-/// A kind of tokens.
+/// A kind of token.
 #[derive(Clone, Copy, PartialEq, Eq, Debug, Drop)]
 pub enum TokenKind {
     /// An integer.
     Integer,
-    /// A name, quoted or not.
+    /// A name, quoted or plain.
     Name,
     /// `(`.
     Open,
@@ -36,7 +36,7 @@ pub enum TokenKind {
 }
 
 impl TokenKind {
-    /// The kinds, each once.
+    /// All kinds, each once.
     pub const ALL: [TokenKind; 12] = [
         TokenKind::Integer,
         TokenKind::Name,
@@ -52,7 +52,7 @@ impl TokenKind {
         TokenKind::End,
     ];
 
-    /// The kind of a token; a bad one has none.
+    /// Returns the kind of a token, or `None` for a bad token.
     pub(crate) fn of(token: LexemeKind) -> Option<TokenKind>
         ensures { IsKindOf result token }
     {

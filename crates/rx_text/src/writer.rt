@@ -1,4 +1,4 @@
-//! Printing the tree of a reference.
+//! Prints the tree of a term.
 
 ghost use Rattle.std.specs.Prelude.{◌≡◌, ◌++◌, ◌∷◌, [], IsSome, IsOkUnless, IfSome, OnOk};
 ghost use Rattle.std.specs.Prelude.{OnErr};
@@ -7,8 +7,8 @@ ghost use Rattle.rx_term.specs.Tree.{Tree};
 ghost use Rattle.rx_term.specs.Store.{tree_at};
 ghost use Rattle.rx_term.specs.Kinds.{HasAppl};
 ghost use Rattle.rx_text.specs.Canon.{canon, name_text, no_arguments};
-ghost use Rattle.rx_text.specs.Output.{contents_of, IsSameOutput, IsWritable, TellsFault};
-ghost use Rattle.rx_text.specs.Output.{TellsRefusal, Writes, WritesFront};
+ghost use Rattle.rx_text.specs.Output.{contents_of, ReportsFault, ReportsRefusal};
+ghost use Rattle.rx_text.specs.Output.{Writes, WritesFront};
 ghost use Rattle.rx_text.specs.Written.{AppendsFront};
 ghost use Rattle.rx_text.specs.Inner.Jobs.{seen, body_text, body_size, job_text, job_size, IsJob};
 ghost use Rattle.rx_text.specs.Inner.Jobs.{Adds};
@@ -28,15 +28,15 @@ pub enum Job {
     Byte(u8),
     /// A tree.
     Tree(Term),
-    /// The annotations of a tree, in braces, where it has any.
+    /// The annotations of a tree in braces, if it has some.
     Notes(Term),
-    /// The items of a list, with commas between.
+    /// The items of a list, separated by commas.
     Items(Term),
-    /// The items of a list, each behind a comma.
+    /// The items of a list, each after a comma.
     Others(Term),
 }
 
-/// Writes all of a text, by as many writes as the writer needs.
+/// Writes a whole text, with several calls of the writer if it needs them.
 pub fn put<W: Write>(out: &mut W, text: &[u8]) -> Result<(), RefusedWrite>
     ensures written { OnOk result (Appends (W.contents out.old) (W.contents out.new) text.now) }
     ensures front { OnErr result (AppendsFront text.now (W.contents out.old) (W.contents out.new)) }
@@ -45,7 +45,7 @@ pub fn put<W: Write>(out: &mut W, text: &[u8]) -> Result<(), RefusedWrite>
     output.put(text)
 }
 
-/// Adds two jobs, of which the second is done first.
+/// Pushes two jobs. `first` is done first.
 fn leave(jobs: &mut Vec<Job>, later: Job, first: Job) -> Result<(), WriteFault>
     ensures left { OnOk result (jobs.new.items ≡ jobs.old.items ++ later ∷ first ∷ []) }
     ensures memory { IsOkUnless result WriteFault.Memory }
@@ -55,7 +55,7 @@ fn leave(jobs: &mut Vec<Job>, later: Job, first: Job) -> Result<(), WriteFault>
     Ok(())
 }
 
-/// Writes a mark, and leaves two jobs behind it, of which the second is done first.
+/// Writes a mark and pushes two jobs. `first` is done first.
 #[inline]
 fn put_mark<W: Write>(
     out: &mut Output<'_, W>,
@@ -64,32 +64,28 @@ fn put_mark<W: Write>(
     later: Job,
     first: Job,
 ) -> Result<(), WriteFault>
-    requires { IsWritable out.old }
     ensures left { OnOk result (jobs.new.items ≡ jobs.old.items ++ later ∷ first ∷ []) }
     ensures written { OnOk result (Writes W.contents out.old out.new (mark ∷ [])) }
     ensures front { OnErr result (WritesFront W.contents out.old out.new (mark ∷ [])) }
-    ensures same { IsSameOutput out.old out.new }
-    ensures cause { TellsFault out.new result }
+    ensures reports { ReportsFault out.old out.new result }
 {
     leave(jobs, later, first)?;
     out.put(&[mark])?;
     Ok(())
 }
 
-/// Writes a name that has arguments, and the parenthesis before them.
+/// Writes a name that has arguments, and the opening parenthesis.
 #[inline]
 fn put_operator<W: Write>(
     out: &mut Output<'_, W>,
     name: &[u8],
     quoted: bool,
 ) -> Result<(), RefusedWrite>
-    requires { IsWritable out.old }
     ensures written { OnOk result (Writes W.contents out.old out.new
         (name_text name.now quoted ++ 40 ∷ [])) }
     ensures front { OnErr result (WritesFront W.contents out.old out.new
         (name_text name.now quoted ++ 40 ∷ [])) }
-    ensures same { IsSameOutput out.old out.new }
-    ensures cause { TellsRefusal out.new result }
+    ensures reports { ReportsRefusal out.old out.new result }
 {
     put_name(out, name, quoted)?;
     out.put(b"(")
@@ -102,13 +98,11 @@ fn put_constant<W: Write>(
     name: &[u8],
     quoted: bool,
 ) -> Result<(), RefusedWrite>
-    requires { IsWritable out.old }
     ensures written { OnOk result (Writes W.contents out.old out.new
         (name_text name.now quoted ++ no_arguments name.now quoted)) }
     ensures front { OnErr result (WritesFront W.contents out.old out.new
         (name_text name.now quoted ++ no_arguments name.now quoted)) }
-    ensures same { IsSameOutput out.old out.new }
-    ensures cause { TellsRefusal out.new result }
+    ensures reports { ReportsRefusal out.old out.new result }
 {
     if name.is_empty() && !quoted {
         out.put(b"()")
@@ -117,7 +111,7 @@ fn put_constant<W: Write>(
     }
 }
 
-/// Writes the front of an application without its annotations.
+/// Writes the start of an application without its annotations, and pushes the rest.
 fn write_application<B: TermBank, W: Write>(
     bank: &B,
     term: Term,
@@ -126,7 +120,6 @@ fn write_application<B: TermBank, W: Write>(
     out: &mut Output<'_, W>,
 ) -> Result<(), WriteFault>
     requires job { HasAppl (B.store bank.now) term symbol }
-    requires open { IsWritable out.old }
     ensures written { OnOk result (Leaves (B.store bank.now)
         (seen [] body_text (tree_at (B.store bank.now) term))
         (seen 1 body_size (tree_at (B.store bank.now) term))
@@ -134,8 +127,7 @@ fn write_application<B: TermBank, W: Write>(
         jobs.old.items jobs.new.items) }
     ensures front { OnErr result (WritesFront W.contents out.old out.new
         (seen [] body_text (tree_at (B.store bank.now) term))) }
-    ensures same { IsSameOutput out.old out.new }
-    ensures cause { TellsFault out.new result }
+    ensures reports { ReportsFault out.old out.new result }
 {
     let name = bank.name_of(symbol);
     let quoted = bank.quoted_of(symbol);
@@ -148,7 +140,7 @@ fn write_application<B: TermBank, W: Write>(
     }
 }
 
-/// Writes the front of a tree without its annotations.
+/// Writes the start of a tree without its annotations, and pushes the rest.
 fn write_body<B: TermBank, W: Write>(
     bank: &B,
     term: Term,
@@ -156,7 +148,6 @@ fn write_body<B: TermBank, W: Write>(
     out: &mut Output<'_, W>,
 ) -> Result<(), WriteFault>
     requires job { IsSome (tree_at (B.store bank.now) term) }
-    requires open { IsWritable out.old }
     ensures written { OnOk result (Leaves (B.store bank.now)
         (seen [] body_text (tree_at (B.store bank.now) term))
         (seen 1 body_size (tree_at (B.store bank.now) term))
@@ -164,8 +155,7 @@ fn write_body<B: TermBank, W: Write>(
         jobs.old.items jobs.new.items) }
     ensures front { OnErr result (WritesFront W.contents out.old out.new
         (seen [] body_text (tree_at (B.store bank.now) term))) }
-    ensures same { IsSameOutput out.old out.new }
-    ensures cause { TellsFault out.new result }
+    ensures reports { ReportsFault out.old out.new result }
 {
     match bank.kind(term) {
         Kind::Int(value) => Ok(put_integer(out, value)?),
@@ -179,7 +169,7 @@ fn write_body<B: TermBank, W: Write>(
     }
 }
 
-/// Writes the front of a tree.
+/// Writes the start of a tree, and pushes the rest.
 fn write_tree<B: TermBank, W: Write>(
     bank: &B,
     term: Term,
@@ -187,21 +177,19 @@ fn write_tree<B: TermBank, W: Write>(
     out: &mut Output<'_, W>,
 ) -> Result<(), WriteFault>
     requires job { IsJob (B.store bank.now) (Job.Tree term) }
-    requires open { IsWritable out.old }
     ensures written { OnOk result (Leaves (B.store bank.now)
         (job_text (B.store bank.now) (Job.Tree term)) (job_size (B.store bank.now) (Job.Tree term))
         (contents_of W.contents out.old) (contents_of W.contents out.new)
         jobs.old.items jobs.new.items) }
     ensures front { OnErr result (WritesFront W.contents out.old out.new
         (job_text (B.store bank.now) (Job.Tree term))) }
-    ensures same { IsSameOutput out.old out.new }
-    ensures cause { TellsFault out.new result }
+    ensures reports { ReportsFault out.old out.new result }
 {
     jobs.push(Job::Notes(term))?;
     write_body(bank, term, jobs, out)
 }
 
-/// Writes the brace before the annotations of a tree.
+/// Writes the opening brace of the annotations of a tree, if it has some, and pushes the rest.
 fn write_notes<B: TermBank, W: Write>(
     bank: &B,
     term: Term,
@@ -209,7 +197,6 @@ fn write_notes<B: TermBank, W: Write>(
     out: &mut Output<'_, W>,
 ) -> Result<(), WriteFault>
     requires job { IsJob (B.store bank.now) (Job.Notes term) }
-    requires open { IsWritable out.old }
     ensures written { OnOk result (Leaves (B.store bank.now)
         (job_text (B.store bank.now) (Job.Notes term))
         (job_size (B.store bank.now) (Job.Notes term))
@@ -217,8 +204,7 @@ fn write_notes<B: TermBank, W: Write>(
         jobs.old.items jobs.new.items) }
     ensures front { OnErr result (WritesFront W.contents out.old out.new
         (job_text (B.store bank.now) (Job.Notes term))) }
-    ensures same { IsSameOutput out.old out.new }
-    ensures cause { TellsFault out.new result }
+    ensures reports { ReportsFault out.old out.new result }
 {
     let Some(anns) = bank.anns(term) else {
         return Ok(());
@@ -226,7 +212,7 @@ fn write_notes<B: TermBank, W: Write>(
     put_mark(out, b'{', jobs, Job::Byte(b'}'), Job::Items(anns))
 }
 
-/// Leaves the items of a list to do.
+/// Pushes the items of a list.
 fn leave_items<B: TermBank>(bank: &B, list: Term, jobs: &mut Vec<Job>) -> Result<(), WriteFault>
     requires { IsJob (B.store bank.now) (Job.Items list) }
     ensures left { OnOk result (Adds (B.store bank.now)
@@ -245,7 +231,7 @@ fn leave_items<B: TermBank>(bank: &B, list: Term, jobs: &mut Vec<Job>) -> Result
     }
 }
 
-/// Writes the comma before the first item of a list.
+/// Writes the comma before the first item of a list, and pushes the rest.
 fn write_others<B: TermBank, W: Write>(
     bank: &B,
     list: Term,
@@ -253,7 +239,6 @@ fn write_others<B: TermBank, W: Write>(
     out: &mut Output<'_, W>,
 ) -> Result<(), WriteFault>
     requires job { IsJob (B.store bank.now) (Job.Others list) }
-    requires open { IsWritable out.old }
     ensures written { OnOk result (Leaves (B.store bank.now)
         (job_text (B.store bank.now) (Job.Others list))
         (job_size (B.store bank.now) (Job.Others list))
@@ -261,8 +246,7 @@ fn write_others<B: TermBank, W: Write>(
         jobs.old.items jobs.new.items) }
     ensures front { OnErr result (WritesFront W.contents out.old out.new
         (job_text (B.store bank.now) (Job.Others list))) }
-    ensures same { IsSameOutput out.old out.new }
-    ensures cause { TellsFault out.new result }
+    ensures reports { ReportsFault out.old out.new result }
 {
     if let Kind::Cons = bank.kind(list) {
         let others = Job::Others(bank.tail(list));
@@ -272,7 +256,7 @@ fn write_others<B: TermBank, W: Write>(
     }
 }
 
-/// Does the front of a job; the rest of it is left to do.
+/// Writes the start of a job, and pushes the rest of it.
 fn write_job<B: TermBank, W: Write>(
     bank: &B,
     job: Job,
@@ -280,15 +264,13 @@ fn write_job<B: TermBank, W: Write>(
     out: &mut Output<'_, W>,
 ) -> Result<(), WriteFault>
     requires job { IsJob (B.store bank.now) job }
-    requires open { IsWritable out.old }
     ensures written { OnOk result (Leaves (B.store bank.now)
         (job_text (B.store bank.now) job) (job_size (B.store bank.now) job)
         (contents_of W.contents out.old) (contents_of W.contents out.new)
         jobs.old.items jobs.new.items) }
     ensures front { OnErr result (WritesFront W.contents out.old out.new
         (job_text (B.store bank.now) job)) }
-    ensures same { IsSameOutput out.old out.new }
-    ensures cause { TellsFault out.new result }
+    ensures reports { ReportsFault out.old out.new result }
 {
     match job {
         Job::Byte(byte) => Ok(out.put(&[byte])?),
@@ -299,7 +281,8 @@ fn write_job<B: TermBank, W: Write>(
     }
 }
 
-/// Prints the tree of a reference.
+/// Prints the tree of a term. `Memory` is returned if an allocation failed, `Write` if the writer
+/// failed; the output is then a prefix of the printed form. Takes time in proportion to the text.
 pub fn write<B: TermBank, W: Write>(
     alloc: Global,
     bank: &B,
@@ -316,7 +299,8 @@ pub fn write<B: TermBank, W: Write>(
     write_to(alloc, bank, t, &mut output)
 }
 
-/// The same into a writer that may have been written to. It is asked no more once it refused.
+/// Prints the tree of a term to an output that may have been written to before. After a failure the
+/// writer is not called again.
 pub fn write_to<B: TermBank, W: Write>(
     alloc: Global,
     bank: &B,
@@ -324,13 +308,11 @@ pub fn write_to<B: TermBank, W: Write>(
     out: &mut Output<'_, W>,
 ) -> Result<(), WriteFault>
     requires held { IsSome (tree_at (B.store bank.now) t) }
-    requires open { IsWritable out.old }
     ensures written { OnOk result (IfSome (tree_at (B.store bank.now) t)
         (λ u. Writes W.contents out.old out.new (canon u))) }
     ensures front { OnErr result (IfSome (tree_at (B.store bank.now) t)
         (λ u. WritesFront W.contents out.old out.new (canon u))) }
-    ensures same { IsSameOutput out.old out.new }
-    ensures cause { TellsFault out.new result }
+    ensures reports { ReportsFault out.old out.new result }
 {
     let mut jobs = Vec::new(alloc);
     jobs.push(Job::Tree(t))?;

@@ -1,5 +1,5 @@
-//! What no clause says: that calls succeed where memory is ample, and that a million cells take
-//! seconds.
+//! Tests of properties of arenas that no clause states: calls succeed if there is memory, and a
+//! million cells take seconds.
 ghost use Rattle.std.specs.Prelude.{◌≡◌, ◌≤◌, ◌^◌, ◌∷◌, [], IfSome};
 ghost use Rattle.rx_arena.specs.Arena.{IsTaken, InChain, empty_arena};
 ghost use Rattle.store_rows.specs.Samples.{HasNoRoots};
@@ -9,7 +9,7 @@ use rx_arena::{ArenaFault, CellBody, Slot};
 use std::alloc::Global;
 use std::process::Abort;
 
-/// An integer's body, with this hash.
+/// Returns an integer's body, with this hash.
 fn body(hash: u64) -> CellBody {
     CellBody {
         kind: 0,
@@ -20,7 +20,7 @@ fn body(hash: u64) -> CellBody {
     }
 }
 
-/// An arena without cells.
+/// Returns an arena without cells.
 fn arena_of(rt: &impl Abort, alloc: Global, cap: u32, chains: u32) -> Box<Arena>
     requires cap { (1 ≤ cap) × (cap ≤ 2 ^ 30) }
     requires chains { (1 ≤ chains) × (chains ≤ 2 ^ 30) }
@@ -31,14 +31,14 @@ fn arena_of(rt: &impl Abort, alloc: Global, cap: u32, chains: u32) -> Box<Arena>
     Box::new(alloc, arena).expect(rt, "memory")
 }
 
-/// Stops where a slot is not taken, or is marked.
+/// Aborts if a slot is not taken, or is marked.
 fn expect_taken(rt: &impl Abort, arena: &Arena, slot: Slot)
     ensures { IsTaken arena.now slot.0 }
 {
     assert!(rt; arena.holds_unmarked(slot));
 }
 
-/// Whether no slot can be taken.
+/// Returns whether no slot can be taken.
 fn is_full(arena: &mut Arena) -> bool
     ensures chains { arena.new.chains ≡ arena.old.chains }
     ensures gray { arena.new.gray ≡ arena.old.gray }
@@ -46,8 +46,7 @@ fn is_full(arena: &mut Arena) -> bool
     matches!(arena.take(body(2)), Err(ArenaFault::Full))
 }
 
-/// Gives back a slot that is not protected, where there is one chain, which is empty, and nothing
-/// is gray.
+/// Frees a slot that is not protected. There is one chain, which is empty, and nothing is gray.
 fn give_back(rt: &impl Abort, arena: &mut Arena, slot: Slot)
     requires chains { arena.old.chains ≡ [] ∷ [] }
     requires no_gray { arena.old.gray ≡ [] }
@@ -58,7 +57,7 @@ fn give_back(rt: &impl Abort, arena: &mut Arena, slot: Slot)
     arena.give_back(slot);
 }
 
-/// Deals the slots out to so many chains.
+/// Distributes the slots to this number of chains.
 fn rehash(rt: &impl Abort, arena: &mut Arena, chains: u32)
     requires { (1 ≤ chains) × (chains ≤ 2 ^ 30) }
 {
@@ -66,8 +65,8 @@ fn rehash(rt: &impl Abort, arena: &mut Arena, chains: u32)
     assert!(rt; arena.chains() == chains);
 }
 
-/// Takes two slots, which are all there are, and one of them again, and deals them out to two
-/// chains.
+/// Takes two slots, which are all that there are, frees one and takes it again, and distributes
+/// them to two chains.
 fn take_all(rt: &impl Abort, arena: &mut Arena)
     requires chains { arena.old.chains ≡ [] ∷ [] }
     requires no_gray { arena.old.gray ≡ [] }
@@ -87,20 +86,20 @@ fn takes_up_to_the_limit(rt: HostRuntime) {
     take_all(&rt, &mut arena_of(&rt, rt.alloc(), 2, 1));
 }
 
-/// Stops where a cell has another hash, or is protected another number of times.
+/// Aborts if a cell has another hash, or another number of protections.
 fn expect_cell(rt: &impl Abort, arena: &Arena, slot: Slot, hash: u64, roots: u16) {
     expect_taken(rt, arena, slot);
     assert!(rt; arena.read(slot).hash == hash);
     assert!(rt; arena.roots(slot) == roots);
 }
 
-/// Replaces how often a cell is protected.
+/// Replaces the number of protections of a cell.
 fn protect(rt: &impl Abort, arena: &mut Arena, slot: Slot, count: u16) {
     expect_taken(rt, arena, slot);
     arena.set_roots(slot, count);
 }
 
-/// Stops where not so many slots can be taken with no more memory.
+/// Aborts if another number of slots can be taken without new memory.
 fn expect_spare(rt: &impl Abort, arena: &Arena, count: u32) {
     assert!(rt; arena.spare() == count);
 }
@@ -115,7 +114,7 @@ fn take_spare(rt: &impl Abort, arena: &mut Arena) -> Slot {
     slot
 }
 
-/// Protects a cell whose hash is 7, which was not, three times.
+/// Protects an unprotected cell whose hash is 7 three times.
 fn protect_spare(rt: &impl Abort, arena: &mut Arena) {
     let slot = take_spare(rt, arena);
     expect_cell(rt, arena, slot, 7, 0);
@@ -130,7 +129,7 @@ fn counts_what_is_spare_and_protected(rt: HostRuntime) {
     protect_spare(&rt, &mut arena_of(&rt, rt.alloc(), 2, 1));
 }
 
-/// Stops where a hash names another chain.
+/// Aborts if a hash has another chain.
 fn expect_home(rt: &impl Abort, arena: &Arena, hash: u64, home: u32) {
     assert!(rt; arena.chains() > 0);
     assert!(rt; arena.home(hash) == home);
@@ -143,7 +142,7 @@ fn a_hash_names_a_chain(rt: HostRuntime) {
     expect_home(&rt, &arena_of(&rt, rt.alloc(), 1, 1), 22, 0);
 }
 
-/// Takes a slot for a cell of this hash, and puts it in front of a chain.
+/// Takes a slot for a cell of this hash, and puts it at the front of a chain.
 fn link(rt: &impl Abort, arena: &mut Arena, chain: u32, hash: u64) -> Slot
     requires { HasNoRoots arena.old }
     ensures { HasNoRoots arena.new }
@@ -154,7 +153,7 @@ fn link(rt: &impl Abort, arena: &mut Arena, chain: u32, hash: u64) -> Slot
     slot
 }
 
-/// The first slot of a chain.
+/// Returns the first slot of a chain.
 fn first_of(rt: &impl Abort, arena: &Arena, chain: u32) -> Option<Slot>
     ensures chained { IfSome result (λ s. InChain arena.now s.0) }
     ensures taken { IfSome result (λ s. IsTaken arena.now s.0) }
@@ -163,7 +162,7 @@ fn first_of(rt: &impl Abort, arena: &Arena, chain: u32) -> Option<Slot>
     arena.chain_first(chain)
 }
 
-/// The slot after this one in its chain.
+/// Returns the slot after this one in its chain.
 fn after(arena: &Arena, slot: Slot) -> Option<Slot>
     requires { InChain arena.now slot.0 }
     ensures { IfSome result (λ s. InChain arena.now s.0) }
@@ -171,7 +170,7 @@ fn after(arena: &Arena, slot: Slot) -> Option<Slot>
     arena.chain_next(slot)
 }
 
-/// Stops where a chain is not made of these slots, in order.
+/// Aborts if a chain does not consist of these slots, in order.
 fn expect_chain(rt: &impl Abort, arena: &Arena, chain: u32, slots: &[Slot]) {
     let mut next = first_of(rt, arena, chain);
     for &slot in slots {
@@ -181,7 +180,7 @@ fn expect_chain(rt: &impl Abort, arena: &Arena, chain: u32, slots: &[Slot]) {
     assert!(rt; next.is_none());
 }
 
-/// Puts three slots, whose hashes are 0, 1 and 2, in front of chain 0, one after the other.
+/// Puts three slots, whose hashes are 0, 1 and 2, at the front of chain 0, one after the other.
 fn link_three(rt: &impl Abort, arena: &mut Arena) -> (Slot, Slot, Slot)
     requires { HasNoRoots arena.old }
     ensures { HasNoRoots arena.new }
@@ -192,7 +191,7 @@ fn link_three(rt: &impl Abort, arena: &mut Arena) -> (Slot, Slot, Slot)
     (s0, s1, s2)
 }
 
-/// Stops where a chain is not made of these two slots, in either order.
+/// Aborts if a chain does not consist of these two slots, in either order.
 fn expect_pair(rt: &impl Abort, arena: &Arena, chain: u32, one: Slot, other: Slot) {
     let pair = if first_of(rt, arena, chain) == Some(one) {
         [one, other]
@@ -202,7 +201,7 @@ fn expect_pair(rt: &impl Abort, arena: &Arena, chain: u32, one: Slot, other: Slo
     expect_chain(rt, arena, chain, &pair);
 }
 
-/// Deals the three slots of chain 0 out to two chains.
+/// Distributes the three slots of chain 0 to two chains.
 fn rehash_three(rt: &impl Abort, arena: &mut Arena)
     requires { HasNoRoots arena.old }
 {
@@ -218,7 +217,7 @@ fn rehashes_by_the_stored_hash(rt: HostRuntime) {
     rehash_three(&rt, &mut arena_of(&rt, rt.alloc(), 10, 1));
 }
 
-/// Marks a cell, and puts it in front of the gray list.
+/// Marks a cell, and puts it at the front of the gray list.
 fn mark(rt: &impl Abort, arena: &mut Arena, slot: Slot)
     requires { HasNoRoots arena.old }
     ensures { HasNoRoots arena.new }
@@ -235,7 +234,7 @@ fn drain_gray(arena: &mut Arena)
     while let Some(_slot) = arena.gray_pop() {}
 }
 
-/// Gives back what is not marked, in a chain.
+/// Frees the slots of a chain that are not marked.
 fn retain_marked(rt: &impl Abort, arena: &mut Arena, chain: u32)
     requires no_gray { arena.old.gray ≡ [] }
     requires no_roots { HasNoRoots arena.old }
@@ -257,7 +256,7 @@ fn unmark_first(rt: &impl Abort, arena: &mut Arena, chain: u32)
     assert!(rt; !arena.marked(slot));
 }
 
-/// Gives back what is not marked of three cells, of which the second is.
+/// Frees those of three cells that are not marked; the second is marked.
 fn keep_second(rt: &impl Abort, arena: &mut Arena)
     requires { HasNoRoots arena.old }
 {
@@ -276,7 +275,7 @@ fn keeps_the_marked(rt: HostRuntime) {
     keep_second(&rt, &mut arena_of(&rt, rt.alloc(), 10, 1));
 }
 
-/// Takes the slot behind the first one out of a chain.
+/// Removes the second slot of a chain.
 fn remove_second(rt: &impl Abort, arena: &mut Arena, chain: u32) {
     assert!(rt; chain < arena.chains());
     let first = arena.chain_first(chain).expect(rt, "a slot");
@@ -284,14 +283,14 @@ fn remove_second(rt: &impl Abort, arena: &mut Arena, chain: u32) {
     arena.chain_remove(chain, second);
 }
 
-/// Takes the first slot out of a chain.
+/// Removes the first slot of a chain.
 fn remove_first(rt: &impl Abort, arena: &mut Arena, chain: u32) {
     assert!(rt; chain < arena.chains());
     let first = arena.chain_first(chain).expect(rt, "a slot");
     arena.chain_remove(chain, first);
 }
 
-/// Takes three slots out of their chain: the second, and then the first ones.
+/// Removes three slots from their chain: the second, then the first ones.
 fn remove_three(rt: &impl Abort, arena: &mut Arena)
     requires { HasNoRoots arena.old }
 {
@@ -310,14 +309,14 @@ fn slots_leave_their_chain(rt: HostRuntime) {
     remove_three(&rt, &mut arena_of(&rt, rt.alloc(), 10, 1));
 }
 
-/// How many cells the large arena takes.
+/// The number of cells that the large arena takes.
 const CELLS: u32 = 1_000_000;
 
-/// Into how many chains they are linked.
+/// The number of chains that they are linked into.
 const CHAINS: u32 = 1 << 16;
 
-/// Takes the cells, with their numbers for hashes, links each into the chain of its hash, and marks
-/// each second one.
+/// Takes the cells, with their numbers as hashes, links each into the chain of its hash, and marks
+/// every second one.
 fn fill(rt: &impl Abort, arena: &mut Arena)
     requires { HasNoRoots arena.old }
     ensures { HasNoRoots arena.new }
@@ -330,7 +329,7 @@ fn fill(rt: &impl Abort, arena: &mut Arena)
     }
 }
 
-/// Gives back what is not marked, in all chains.
+/// Frees the slots of all chains that are not marked.
 fn sweep(rt: &impl Abort, arena: &mut Arena)
     requires no_gray { arena.old.gray ≡ [] }
     requires no_roots { HasNoRoots arena.old }
@@ -340,18 +339,18 @@ fn sweep(rt: &impl Abort, arena: &mut Arena)
     }
 }
 
-/// The hash of the first cell of a chain.
+/// Returns the hash of the first cell of a chain.
 fn first_hash(rt: &impl Abort, arena: &Arena, chain: u32) -> u64 {
     let slot = first_of(rt, arena, chain).expect(rt, "a slot");
     arena.read(slot).hash
 }
 
-/// Stops where there are not so many cells in so many chains.
+/// Aborts if there are other numbers of cells and chains.
 fn expect_counts(rt: &impl Abort, arena: &Arena, cells: u32, chains: u32) {
     assert!(rt; arena.cells() == cells && arena.chains() == chains);
 }
 
-/// Deals the cells that are left out to twice as many chains.
+/// Distributes the remaining cells to twice as many chains.
 fn rehash_the_rest(rt: &impl Abort, arena: &mut Arena) {
     expect_counts(rt, arena, CELLS / 2, CHAINS);
     rehash(rt, arena, 2 * CHAINS);
@@ -360,7 +359,7 @@ fn rehash_the_rest(rt: &impl Abort, arena: &mut Arena) {
     expect_chain(rt, arena, 7, &[]);
 }
 
-/// Fills an arena, gives back what is not marked, and deals the rest out to more chains.
+/// Fills an arena, frees the slots that are not marked, and distributes the rest to more chains.
 fn sweep_half(rt: &impl Abort, arena: &mut Arena)
     requires { HasNoRoots arena.old }
 {

@@ -1,4 +1,4 @@
-//! What the tests of both banks ask of a bank.
+//! Test cases for every term store.
 #![tactic(auto, using(rx_term::proofs::StoreLemmas::bank_steps))]
 
 ghost use Rattle.std.specs.Prelude.{◌≡◌, ℕ, false, IsSome, IsTrue, IfOk, Some, codes};
@@ -13,7 +13,7 @@ use rx_term::{BankFault, Kind, Term, TermBank};
 use std::alloc::Global;
 use std::process::Abort;
 
-/// `f(a,a)`, and whether its two arguments are one reference.
+/// Makes `f(a,a)`. Returns it, and whether its two arguments are one reference.
 pub fn pair<B: TermBank>(bank: &mut B) -> Result<(Term, bool), BankFault>
     ensures tree { IfOk result (λ r. tree_at (B.store bank.new) r.0 ≡
         Some (Appl (codes "f") false
@@ -26,7 +26,7 @@ pub fn pair<B: TermBank>(bank: &mut B) -> Result<(Term, bool), BankFault>
     Ok((r, first == second))
 }
 
-/// `f` of two references.
+/// Makes `f` of two references.
 fn apply_f<B: TermBank>(bank: &mut B, first: Term, second: Term) -> Result<Term, BankFault>
     requires first { IsSome (tree_at (B.store bank.old) first) }
     requires second { IsSome (tree_at (B.store bank.old) second) }
@@ -42,7 +42,7 @@ fn apply_f<B: TermBank>(bank: &mut B, first: Term, second: Term) -> Result<Term,
     bank.appl(f, long)
 }
 
-/// Stops where the rows of every bank do not hold, of two empty banks: of cap 5 and of cap 10.
+/// Aborts if the test cases do not hold for two empty stores with limits of 5 and 10 cells.
 pub fn expect_rows<B: TermBank>(rt: &impl Abort, five: &mut B, ten: &mut B)
     requires { (t : ℕ) → (B.store five.old).roots t ≡ 0 }
 {
@@ -53,7 +53,7 @@ pub fn expect_rows<B: TermBank>(rt: &impl Abort, five: &mut B, ten: &mut B)
     assert!(rt; ten.cells() == 5);
 }
 
-/// Stops where there is not room for five trees, or where there is for a sixth one.
+/// Aborts unless there is room for exactly five trees.
 fn expect_room_for_five<B: TermBank>(rt: &impl Abort, bank: &mut B)
     ensures roots { (B.store bank.new).roots ≡ (B.store bank.old).roots }
 {
@@ -63,8 +63,8 @@ fn expect_room_for_five<B: TermBank>(rt: &impl Abort, bank: &mut B)
     assert!(rt; bank.spare() == 5);
 }
 
-/// Makes `f(a,a)` in an empty bank of cap 5, which is full then; stops where a sixth tree fits, or
-/// `a` is not found again.
+/// Makes `f(a,a)` in an empty store with a limit of 5 cells, which is full then. Aborts if a sixth
+/// tree fits, or `a` is not found again.
 fn fill_five<B: TermBank>(rt: &impl Abort, bank: &mut B) -> Term
     ensures held { IsSome (tree_at (B.store bank.new) result) }
     ensures roots { (B.store bank.new).roots ≡ (B.store bank.old).roots }
@@ -78,8 +78,8 @@ fn fill_five<B: TermBank>(rt: &impl Abort, bank: &mut B) -> Term
     again
 }
 
-/// Stops where a bank with `f(a,a)` does not keep `a` and what it is made of while it is rooted as
-/// often as it can be, or keeps anything after.
+/// Aborts if a store with `f(a,a)` does not keep exactly `a` and its parts while `a` is protected
+/// as often as possible, or keeps any tree afterwards.
 fn expect_reclaims<B: TermBank>(rt: &impl Abort, bank: &mut B, a: Term)
     requires held { IsSome (tree_at (B.store bank.old) a) }
     requires unrooted { (B.store bank.old).roots a.0 ≡ 0 }
@@ -92,7 +92,7 @@ fn expect_reclaims<B: TermBank>(rt: &impl Abort, bank: &mut B, a: Term)
     assert!(rt; bank.cells() == 0);
 }
 
-/// Roots a term as often as it can be; whether the next time was refused.
+/// Protects a term as often as possible, and returns whether the next time was an error.
 fn root_fully<B: TermBank>(bank: &mut B, a: Term) -> bool
     requires held { IsSome (tree_at (B.store bank.old) a) }
     requires unrooted { (B.store bank.old).roots a.0 ≡ 0 }
@@ -105,7 +105,7 @@ fn root_fully<B: TermBank>(bank: &mut B, a: Term) -> bool
     bank.protect(a).is_err()
 }
 
-/// Unroots a term 65,535 times.
+/// Removes 65,535 protections of a term.
 fn unroot<B: TermBank>(bank: &mut B, a: Term)
     requires { (B.store bank.old).roots a.0 ≡ 65535 }
     ensures { (B.store bank.new).roots a.0 ≡ 0 }
@@ -115,7 +115,7 @@ fn unroot<B: TermBank>(bank: &mut B, a: Term)
     }
 }
 
-/// Makes a placeholder of 7 with the annotation list of 7 in an empty bank; stops where its parts
+/// Makes a placeholder of 7 with the annotation list of 7 in an empty store. Aborts if its parts
 /// are not as they were made.
 fn expect_notes<B: TermBank>(rt: &impl Abort, bank: &mut B) -> Result<(), BankFault> {
     let seven = bank.int(7)?;
@@ -127,7 +127,7 @@ fn expect_notes<B: TermBank>(rt: &impl Abort, bank: &mut B) -> Result<(), BankFa
     Ok(())
 }
 
-/// Stops where the list has not 7 as its first item and the other list behind it.
+/// Aborts if the list does not have 7 as its first item, followed by the other list.
 fn expect_list_of_seven<B: TermBank>(rt: &impl Abort, bank: &B, list: Term, seven: Term, rest: Term)
     requires seven { IsSome (tree_at (B.store bank.now) seven) }
     requires head { IsSome (part_at head_of (B.store bank.now) list) }
@@ -138,7 +138,7 @@ fn expect_list_of_seven<B: TermBank>(rt: &impl Abort, bank: &B, list: Term, seve
     assert!(rt; bank.tail(list) == rest);
 }
 
-/// A placeholder with annotations.
+/// Makes a placeholder with annotations.
 fn note_hole<B: TermBank>(bank: &mut B, inner: Term, anns: Term) -> Result<Term, BankFault>
     requires inner { IsSome (tree_at (B.store bank.old) inner) }
     requires anns { let w = B.store bank.old in
@@ -151,7 +151,7 @@ fn note_hole<B: TermBank>(bank: &mut B, inner: Term, anns: Term) -> Result<Term,
     bank.annotated(hole, anns)
 }
 
-/// Stops where the tree is not a placeholder of one reference with annotations at the other.
+/// Aborts if the tree is not a placeholder of one reference with annotations at the other.
 fn expect_noted_hole<B: TermBank>(rt: &impl Abort, bank: &B, tree: Term, inner: Term, anns: Term)
     requires tree { IsSome (tree_at (B.store bank.now) tree) }
     requires hole { IsSome (part_at inner_of (B.store bank.now) tree) }
@@ -161,7 +161,7 @@ fn expect_noted_hole<B: TermBank>(rt: &impl Abort, bank: &B, tree: Term, inner: 
     assert!(rt; bank.anns(tree) == Some(anns));
 }
 
-/// Stops where a term is not a plain symbol of two arguments whose name is `f`.
+/// Aborts if a term is not an unquoted symbol named `f` with two arguments.
 fn expect_symbol<B: TermBank>(rt: &impl Abort, bank: &B, t: Term)
     requires { IsSome (tree_at (B.store bank.now) t) }
 {
@@ -174,7 +174,7 @@ fn expect_symbol<B: TermBank>(rt: &impl Abort, bank: &B, t: Term)
     }
 }
 
-/// Stops where equal terms are not one reference, in an empty bank.
+/// Aborts if equal terms are not one reference, in an empty store.
 pub fn expect_shared<B: TermBank>(rt: &impl Abort, alloc: Global, bank: &mut B) {
     let (pair, one) = pair(bank).expect(rt, "`f(a,a)`");
     assert!(rt; one && bank.cells() == 5);

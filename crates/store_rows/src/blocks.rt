@@ -1,19 +1,19 @@
-//! Blocks go back: what the blocks of an arena are asked of, they are given back to.
+//! Tests that the blocks of an arena are returned to the allocator that they came from.
 
 use linked_list_allocator::LocalHeap;
 use rx_arena::Store;
 use std::process::Abort;
 
-/// How many bytes the cells of a block take.
+/// The number of bytes of a block of cells.
 const BLOCK_BYTES: usize = 1024 * 48;
 
-/// Stops where other than so many blocks are taken from a heap: what is taken beside them is less
-/// than a block.
+/// Aborts if another number of blocks is allocated from a heap. All other allocations together are
+/// smaller than a block.
 fn expect_blocks(rt: &impl Abort, heap: &LocalHeap, blocks: usize) {
     assert!(rt; heap.used() / BLOCK_BYTES == blocks);
 }
 
-/// Adds two blocks from a heap that has room for them; they go back at the end.
+/// Adds two blocks from a heap that has room for them; they are freed at the end.
 fn take_two_blocks(rt: &impl Abort, heap: &LocalHeap) {
     let mut store = Store::new(heap);
     assert!(rt; store.grow().is_ok());
@@ -22,7 +22,7 @@ fn take_two_blocks(rt: &impl Abort, heap: &LocalHeap) {
     expect_blocks(rt, heap, 2);
 }
 
-/// Adds one block from a heap that has no room for a second one; it goes back at the end.
+/// Adds one block from a heap without room for a second one; it is freed at the end.
 fn take_one_of_two_blocks(rt: &impl Abort, heap: &LocalHeap) {
     let mut store = Store::new(heap);
     assert!(rt; store.grow().is_ok());

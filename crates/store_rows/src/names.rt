@@ -1,4 +1,4 @@
-//! One symbol for each name, flag and number of arguments.
+//! Tests that each name, flag and number of arguments has one symbol.
 ghost use Rattle.std.specs.Prelude.{IsSome};
 ghost use Rattle.std.specs.FinMap.{get};
 ghost use Rattle.rx_names.specs.Names.{symbols_of};
@@ -7,13 +7,13 @@ use rx_names::{Names, laws};
 use rx_term::Symbol;
 use std::process::Abort;
 
-/// Stops where a name that was not given has a symbol, or a quoted one another symbol than this.
+/// Aborts if an unknown name has a symbol, or a quoted name has another symbol than this.
 fn expect_found(rt: &impl Abort, names: &Names, quoted: Symbol) {
     assert!(rt; names.find(b"a", true, 0) == Some(quoted));
     assert!(rt; names.find(b"b", false, 0).is_none());
 }
 
-/// Stops where a symbol has another name than `a`, is quoted, or has not one argument.
+/// Aborts if a symbol has another name than `a`, is quoted, or does not have one argument.
 fn expect_unary(rt: &impl Abort, names: &Names, unary: Symbol)
     requires { IsSome (get (symbols_of names.now) unary.0) }
 {

@@ -1,4 +1,4 @@
-//! The rows of every bank, and one reference for equal terms.
+//! Tests of `PlainBank`: the test cases for every store, and one reference for equal terms.
 ghost use Rattle.std.specs.Prelude.{◌<◌, ◌≤◌};
 ghost use Rattle.rx_term.specs.Bank.{IsEmptyStore};
 ghost use Rattle.rx_plain.specs.State.{store_of};
@@ -8,7 +8,7 @@ use rx_plain::PlainBank;
 use std::alloc::Global;
 use std::process::Abort;
 
-/// A bank without cells.
+/// Returns a store without cells.
 fn bank_of(rt: &impl Abort, alloc: Global, cap: u32) -> Box<PlainBank>
     requires { (0 < cap) × (cap ≤ 100) }
     ensures { IsEmptyStore (store_of result.value) cap }

@@ -1,4 +1,5 @@
-//! The rows of every bank, one reference for equal terms, and chains that stay short.
+//! Tests of `SharedBank`: the test cases for every store, one reference for equal terms, short
+//! chains.
 ghost use Rattle.std.specs.Prelude.{◌<◌, ◌≤◌, length};
 ghost use Rattle.rx_term.specs.Bank.{IsEmptyStore};
 ghost use Rattle.rx_shared.specs.State.{store_of};
@@ -10,7 +11,7 @@ use rx_term::{BankFault, Term, TermBank};
 use std::alloc::Global;
 use std::process::Abort;
 
-/// A bank without cells.
+/// Returns a store without cells.
 fn bank_of(rt: &impl Abort, alloc: Global, cap: u32) -> Box<SharedBank>
     requires { (0 < cap) × (cap ≤ 1_000_000) }
     ensures { IsEmptyStore (store_of result.value) cap }
@@ -32,7 +33,7 @@ fn equal_terms_are_one_reference(rt: HostRuntime) {
     expect_shared(&rt, rt.alloc(), &mut *bank);
 }
 
-/// How many slots a chain has.
+/// Returns the number of slots in a chain.
 fn chain_length(arena: &Arena, chain: u32) -> u32
     requires { chain < length arena.now.chains }
 {
@@ -45,7 +46,7 @@ fn chain_length(arena: &Arena, chain: u32) -> u32
     count
 }
 
-/// How many slots the longest chain has.
+/// Returns the number of slots in the longest chain.
 fn longest_chain(arena: &Arena) -> u32 {
     let mut most = 0;
     for chain in 0..arena.chains() {
@@ -54,7 +55,7 @@ fn longest_chain(arena: &Arena) -> u32 {
     most
 }
 
-/// Makes the integers below a number.
+/// Makes the integers below `count`.
 fn make_integers(bank: &mut SharedBank, count: i32) -> Result<(), BankFault> {
     for z in 0..count {
         bank.int(z)?;
@@ -62,18 +63,18 @@ fn make_integers(bank: &mut SharedBank, count: i32) -> Result<(), BankFault> {
     Ok(())
 }
 
-/// Makes the integers below a number; stops where there are not so many cells then.
+/// Makes the integers below `count`. Aborts if there is another number of cells then.
 fn make_cells(rt: &impl Abort, bank: &mut SharedBank, count: i32, cells: u32) {
     assert!(rt; make_integers(bank, count).is_ok());
     assert!(rt; bank.cells() == cells);
 }
 
-/// Stops where a chain is too long.
+/// Aborts if a chain is too long.
 fn expect_short_chains(rt: &impl Abort, bank: &SharedBank) {
     assert!(rt; longest_chain(bank.arena()) <= 64);
 }
 
-/// The integers of 1,100 cells come to short chains.
+/// Makes 1,100 integers, whose chains have to be short.
 fn chain_integers(rt: &impl Abort, bank: &mut SharedBank) {
     make_cells(rt, bank, 1100, 1100);
     expect_short_chains(rt, bank);
@@ -84,10 +85,10 @@ fn chains_of_integers_are_short(rt: HostRuntime) {
     chain_integers(&rt, &mut bank_of(&rt, rt.alloc(), 2000));
 }
 
-/// How many integers are made, and how many chains there are then.
+/// The number of integers that are made, and the number of chains that there are then.
 const DOUBLED: [(i32, u32); 4] = [(1024, 1024), (1025, 2048), (2048, 2048), (2049, 4096)];
 
-/// Makes the integers of each row; stops where there are not so many chains then.
+/// Makes the integers of each test case. Aborts if there is another number of chains then.
 fn double_chains(rt: &impl Abort, bank: &mut SharedBank) {
     for (count, chains) in &DOUBLED {
         assert!(rt; make_integers(bank, *count).is_ok());
@@ -100,7 +101,7 @@ fn chains_are_doubled_when_cells_pass_their_number(rt: HostRuntime) {
     double_chains(&rt, &mut bank_of(&rt, rt.alloc(), 5000));
 }
 
-/// Reclaims all but a term of five cells; stops where another cell is left, or none is spare.
+/// Collects all but a term of five cells. Aborts if another cell stays, or none is spare.
 fn keep_five(rt: &impl Abort, bank: &mut SharedBank, t: Term) {
     assert!(rt; bank.holds(t));
     bank.reclaim(&[t]);
@@ -108,7 +109,7 @@ fn keep_five(rt: &impl Abort, bank: &mut SharedBank, t: Term) {
     assert!(rt; bank.spare() >= 3000);
 }
 
-/// Makes 3,000 integers, `f(a,a)`, which is kept alone, and the integers again.
+/// Makes 3,000 integers and `f(a,a)`, keeps only the latter, and makes the integers again.
 fn reclaim_integers(rt: &impl Abort, bank: &mut SharedBank) {
     make_cells(rt, bank, 3000, 3000);
     let (kept, _) = pair(bank).expect(rt, "`f(a,a)`");
@@ -117,13 +118,13 @@ fn reclaim_integers(rt: &impl Abort, bank: &mut SharedBank) {
     expect_short_chains(rt, bank);
 }
 
-/// What a reclaim leaves is there still, and what it drops may be made again.
+/// After a collection the terms that were kept are still there, and the others can be made again.
 #[test]
 fn a_reclaim_keeps_what_is_handed_in(rt: HostRuntime) {
     reclaim_integers(&rt, &mut bank_of(&rt, rt.alloc(), 5000));
 }
 
-/// Makes the integers below a number, and protects each; whether that went well.
+/// Makes the integers below `count`, and protects each. Returns whether this succeeded.
 #[tactic(auto, using(rx_term::proofs::StoreLemmas::bank_steps))]
 fn protect_integers(bank: &mut SharedBank, count: i32) -> bool {
     for z in 0..count {
@@ -139,13 +140,13 @@ fn protect_integers(bank: &mut SharedBank, count: i32) -> bool {
     true
 }
 
-/// Reclaims what is not protected; stops where another number of cells than 100,000 is left.
+/// Collects the terms that are not protected. Aborts if another number of cells than 100,000 stays.
 fn keep_protected(rt: &impl Abort, bank: &mut SharedBank) {
     bank.reclaim(&[]);
     assert!(rt; bank.cells() == 100_000);
 }
 
-/// Makes 150,000 integers, of which 100,000 are protected, and reclaims twice.
+/// Makes 150,000 integers, 100,000 of which are protected, and collects twice.
 fn reclaim_beside_many(rt: &impl Abort, bank: &mut SharedBank) {
     assert!(rt; protect_integers(bank, 100_000));
     make_cells(rt, bank, 150_000, 150_000);

@@ -1,4 +1,5 @@
-//! That a collection of a small graph keeps what it should, and that a long one needs no stack.
+//! Tests that a collection of a small graph keeps what it should, and that a long one needs no
+//! stack.
 ghost use Rattle.std.specs.Prelude.{◌<◌, ◌≤◌, ◌^◌, ℕ, length, OnOk, IfSome};
 ghost use Rattle.rx_arena.specs.Put.{times};
 ghost use Rattle.rx_arena.specs.Arena.{IsTaken};
@@ -14,7 +15,7 @@ use std::process::Abort;
 /// The kind of a cell that names no slot.
 const LEAF: u8 = 0;
 
-/// An arena without cells.
+/// Returns an arena without cells.
 fn arena_of(rt: &impl Abort, alloc: Global, cap: u32, chains: u32) -> Box<Arena>
     requires cap { (1 ≤ cap) × (cap ≤ 2 ^ 30) }
     requires chains { (1 ≤ chains) × (chains ≤ 2 ^ 30) }
@@ -24,7 +25,7 @@ fn arena_of(rt: &impl Abort, alloc: Global, cap: u32, chains: u32) -> Box<Arena>
     Box::new(alloc, arena).expect(rt, "memory")
 }
 
-/// Takes a slot for a cell whose parts are there, and links it into a chain.
+/// Takes a slot for a cell whose parts exist, and links it into a chain.
 fn link(arena: &mut Arena, chain: u32, body: CellBody) -> Result<Slot, ArenaFault>
     requires ready { CanCollect arena.old }
     requires chain { chain < length arena.old.chains }
@@ -36,7 +37,7 @@ fn link(arena: &mut Arena, chain: u32, body: CellBody) -> Result<Slot, ArenaFaul
     Ok(slot)
 }
 
-/// The same, where the chain and a free slot are there.
+/// Takes a slot for a cell and links it into a chain. The chain and a free slot exist.
 fn link_slot(rt: &impl Abort, arena: &mut Arena, chain: u32, body: CellBody) -> Slot
     requires ready { CanCollect arena.old }
     requires parts { (s : ℕ) → 0 < times s (names body) → IsTaken arena.old s }
@@ -46,7 +47,7 @@ fn link_slot(rt: &impl Abort, arena: &mut Arena, chain: u32, body: CellBody) -> 
     link(arena, chain, body).expect(rt, "a free slot")
 }
 
-/// A cell without parts, linked into a chain.
+/// Makes a cell without parts, linked into a chain.
 fn leaf(rt: &impl Abort, arena: &mut Arena, chain: u32) -> Slot
     requires { CanCollect arena.old }
     ensures { CanCollect arena.new }
@@ -61,14 +62,14 @@ fn leaf(rt: &impl Abort, arena: &mut Arena, chain: u32) -> Slot
     link_slot(rt, arena, chain, body)
 }
 
-/// Stops where a slot is not taken, or is marked.
+/// Aborts if a slot is not taken, or is marked.
 fn expect_taken(rt: &impl Abort, arena: &Arena, slot: Slot)
     ensures { IsTaken arena.now slot.0 }
 {
     assert!(rt; arena.holds_unmarked(slot));
 }
 
-/// Stops where there are annotations whose slot is not taken, or is marked.
+/// Aborts if there are annotations whose slot is not taken, or is marked.
 fn expect_anns_taken(rt: &impl Abort, arena: &Arena, anns: Option<Slot>)
     ensures { IfSome anns (λ s. IsTaken arena.now s.0) }
 {
@@ -77,7 +78,7 @@ fn expect_anns_taken(rt: &impl Abort, arena: &Arena, anns: Option<Slot>)
     }
 }
 
-/// A cell with these parts, linked into a chain.
+/// Makes a cell with these parts, linked into a chain.
 fn node(
     rt: &impl Abort,
     arena: &mut Arena,
@@ -102,7 +103,7 @@ fn node(
     link_slot(rt, arena, chain, body)
 }
 
-/// Replaces how often a cell is protected.
+/// Replaces the number of protections of a cell.
 fn protect(rt: &impl Abort, arena: &mut Arena, slot: Slot, count: u16)
     requires { CanCollect arena.old }
     ensures { CanCollect arena.new }
@@ -111,7 +112,7 @@ fn protect(rt: &impl Abort, arena: &mut Arena, slot: Slot, count: u16)
     arena.set_roots(slot, count);
 }
 
-/// Puts a cell, which is not marked, on the gray list.
+/// Puts a cell that is not marked in the gray list.
 fn make_gray(rt: &impl Abort, arena: &mut Arena, slot: Slot)
     requires { CanCollect arena.old }
     ensures { CanCollect arena.new }
@@ -121,7 +122,7 @@ fn make_gray(rt: &impl Abort, arena: &mut Arena, slot: Slot)
     arena.gray_push(slot);
 }
 
-/// The slots of a chain, in order; each has to be unmarked.
+/// Returns the slots of a chain, in order. Each has to be unmarked.
 fn unmarked_chain<R: Abort>(
     rt: &R,
     alloc: Global,
@@ -140,14 +141,14 @@ fn unmarked_chain<R: Abort>(
     Ok(slots)
 }
 
-/// Stops where a chain is not made of these slots, in order, or one of them is marked.
+/// Aborts if a chain does not consist of these slots, in order, or one of them is marked.
 fn expect_chain(rt: &impl Abort, alloc: Global, arena: &Arena, chain: u32, slots: &[Slot]) {
     assert!(rt; chain < arena.chains());
     let found = unmarked_chain(rt, alloc, arena, chain).expect(rt, "memory");
     assert!(rt; found.as_slice() == slots);
 }
 
-/// The cells of a graph that its call leads to.
+/// The cells of a graph that its call reaches.
 #[derive(Clone, Copy)]
 struct Reached {
     empty: Slot,
@@ -157,7 +158,7 @@ struct Reached {
     call: Slot,
 }
 
-/// A graph of eight cells in three chains.
+/// Makes a graph of eight cells in three chains.
 fn graph(rt: &impl Abort, arena: &mut Arena) -> Reached
     requires { CanCollect arena.old }
     ensures { CanCollect arena.new }
@@ -179,13 +180,13 @@ fn graph(rt: &impl Abort, arena: &mut Arena) -> Reached
     }
 }
 
-/// Stops where there are not so many cells, or one of them is gray.
+/// Aborts if there is another number of cells, or one of them is gray.
 fn expect_cells(rt: &impl Abort, arena: &mut Arena, count: u32) {
     assert!(rt; arena.cells() == count);
     assert!(rt; arena.gray_pop().is_none());
 }
 
-/// Collects a graph of which a call is protected.
+/// Collects a graph in which a call is protected.
 fn collect_graph(rt: &impl Abort, alloc: Global, arena: &mut Arena)
     requires { CanCollect arena.old }
 {
@@ -203,7 +204,7 @@ fn keeps_what_is_reached(rt: HostRuntime) {
     collect_graph(&rt, rt.alloc(), &mut arena_of(&rt, rt.alloc(), 100, 3));
 }
 
-/// Collects a graph of which a list is gray.
+/// Collects a graph in which a list is gray.
 fn collect_gray(rt: &impl Abort, alloc: Global, arena: &mut Arena)
     requires { CanCollect arena.old }
 {
@@ -223,8 +224,7 @@ fn a_gray_slot_keeps_its_parts(rt: HostRuntime) {
     collect_gray(&rt, rt.alloc(), &mut arena_of(&rt, rt.alloc(), 100, 2));
 }
 
-/// Makes a cell that nothing needs, and collects; stops where another number of cells than one is
-/// left.
+/// Makes a cell that nothing needs, and collects. Aborts if another number of cells than one stays.
 fn lose_one(rt: &impl Abort, arena: &mut Arena, chain: u32)
     requires { CanCollect arena.old }
     ensures { CanCollect arena.new }
@@ -234,7 +234,7 @@ fn lose_one(rt: &impl Abort, arena: &mut Arena, chain: u32)
     assert!(rt; arena.cells() == 1);
 }
 
-/// Collects three times, with one cell that is protected.
+/// Collects three times, with one protected cell.
 fn collect_thrice(rt: &impl Abort, alloc: Global, arena: &mut Arena)
     requires { CanCollect arena.old }
 {
@@ -247,19 +247,19 @@ fn collect_thrice(rt: &impl Abort, alloc: Global, arena: &mut Arena)
     lose_one(rt, arena, 0);
 }
 
-/// What one collection leaves is not marked for the next one.
+/// Cells that one collection keeps are not marked for the next one.
 #[test]
 fn collections_follow_one_another(rt: HostRuntime) {
     collect_thrice(&rt, rt.alloc(), &mut arena_of(&rt, rt.alloc(), 100, 2));
 }
 
-/// How many nodes the long list has.
+/// The number of nodes of the long list.
 const NODES: u32 = 100_000;
 
-/// In how many chains they are linked.
+/// The number of chains that they are linked into.
 const CHAINS: u32 = 1 << 12;
 
-/// The first node of a long list, whose elements are all one leaf.
+/// Makes a long list whose items are all one leaf, and returns its first node.
 fn long_list(rt: &impl Abort, arena: &mut Arena) -> Slot
     requires { CanCollect arena.old }
     ensures { CanCollect arena.new }

@@ -14,7 +14,7 @@ kept_root w t r n k = elim (eqb_tells r.0 t.0) [
   | inr p ↦ elim k [ inl h ↦ inl (rw p.0 at h) | inr h ↦ absurd (no_element r h) ]
 ]
 
--- so what a reclaim leaves was reached from the roots, or from t
+-- so what a collection leaves was reached from the roots, or from t
 pub only_reached : (a b c : Store) (t : Term) (n : ℕ) → b ≡ with_count a t n → Reclaims b c [] → (s : Term) (u : Tree) → tree_at c s ≡ Some u
     → IsReached a (t ∷ []) u
 only_reached a b c t n e m s u h =

@@ -1,4 +1,4 @@
--- A make of annotations, where both trees are known, and the integers in them.
+-- A make of annotations, if both trees are known, and the integers in them.
 use Rattle.std.proofs.Common.{◌≡◌, ◌<◌, ℤ, pos, negsuc, Some, Result, Ok, Err, w32, to_z, of_z, refl, ◌∙◌, arith}
 use Rattle.std.proofs.lemmas.Int.{to_z-of_z}
 use Rattle.std.specs.Int.Signed.{mag}

@@ -1,4 +1,4 @@
--- A request is one term, and its letters are those of the only one.
+-- A request is one term, and its items are those of the only one.
 use Rattle.std.proofs.Common.{◌≡◌, ◌<◌, List, [], ◌∷◌, ◌++◌, length, subst, arith}
 use Rattle.rec_sorts.specs.Numbering.{Pairwise}
 

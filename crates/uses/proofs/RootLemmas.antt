@@ -1,4 +1,4 @@
--- What is protected, behind the calls of an engine.
+-- What is protected, after the calls of an engine.
 use Rattle.std.proofs.Common.{ℕ, ◌≡◌, ◌<◌, ◌+◌, [], Result, Ok, Err, refl, sym, subst, ◌∙◌, inl, inr, arith}
 use Rattle.std.proofs.lemmas.Bool.Decides.{eqb_tells}
 use Rattle.rx_term.specs.Store.{Store, tree_at}
@@ -8,7 +8,7 @@ use Rattle.rx_term.specs.declared.faults.RootsFull.{RootsFull}
 use Rattle.rx_term.proofs.KeepLemmas.{kept-root}
 use Rattle.uses.specs.Kept.{IsProtected, KeepsRoots}
 
--- what makes and reclaims keep, roots among it
+-- what makes and collections keep, roots among it
 pub roots_kept : (a b : Store) → IsSound a → Keeps a b [] → KeepsRoots a b
 roots_kept a b s k t p = (subst (λ (f : ℕ → ℕ). 0 < f t.0) (sym k.beside.roots) p, kept-root k t p (s.rooted_held t p))
 

@@ -1,4 +1,4 @@
--- Given terms, and references of values.
+-- Input terms, and references of values.
 use Rattle.std.proofs.Common.{◌≡◌, Option, Some, None, Result, Ok, Err, IsSome, IfSome, ap, subst, ◌∙◌}
 use Rattle.std.specs.Prelude.{IfOk, is_some}
 use Rattle.std.specs.FinMap as map
@@ -9,7 +9,7 @@ use Rattle.rec_syntax.specs.Syntax.{Spec}
 use Rattle.rec_sorts.specs.Linked.{HasMoreSymbols}
 use Rattle.rec_sorts.specs.TermRules.{broken_by_terms}
 use Rattle.rec_engine.specs.Engine.{EngineState, IsGiven}
-use Rattle.rec_engine.specs.declared.cells.EngineFault.{EngineFault}
+use Rattle.rec_engine.specs.declared.engine.errors.EngineFault.{EngineFault}
 use Rattle.uses.specs.Evaluated.{IsHeld}
 
 -- a term is given where the list of it alone keeps the rules

@@ -1,4 +1,4 @@
-//! From a specification's text to the printed values of its terms, and of terms that are given.
+//! From the text of a specification to the printed normal forms of its terms and of input terms.
 
 ghost use Rattle.std.specs.Prelude.{◌≡◌, ◌<◌, ℕ, [], Some, IsSome, IfOk, IfErr, OnOk, length};
 ghost use Rattle.std.specs.Prelude.{option_map};
@@ -11,42 +11,44 @@ ghost use Rattle.rec_sorts.specs.SpecRules.{SpecVerdict, Good};
 ghost use Rattle.rec_engine.specs.Engine.{IsGiven, SameEngine, eval_tree};
 ghost use Rattle.uses.specs.Evaluated.{IsRefused, IsHeld, value_within, value_text};
 
+use crate::WorkFault;
 use crate::texts::{only, text_of};
-use crate::{EvaluationFault, SpecFault};
 use rec_engine::{Engine, EngineFault, Options, Outcome};
 use rec_sorts::{Checked, check, check_terms};
 use rec_syntax::read_spec;
 use rx_term::{Term, TermBank};
 use std::alloc::Global;
 
-/// How the engines of this module work.
+/// The options of the engines in this module.
 const OPTIONS: Options = Options {
     memo: 65_536,
     reclaim_every: 262_144,
 };
 
-/// The specification that a text spells, once it is known to keep its rules.
-pub fn specification_of(alloc: Global, text: &[u8]) -> Result<Checked, SpecFault>
+/// Reads and checks a specification. Returns an error if the text is not one, or violates a rule.
+pub fn specification_of(alloc: Global, text: &[u8]) -> Result<Checked, WorkFault>
     ensures good { IfOk result (λ c. SpecVerdict text.now (Good c.spec)) }
     ensures refused { IfErr result (IsRefused text.now) }
 {
     let syntax = match read_spec(alloc, text) {
         Ok(syntax) => syntax,
-        Err(fault) => return Err(SpecFault::Syntax(fault)),
+        Err(fault) => return Err(WorkFault::Syntax(fault)),
     };
     match check(alloc, syntax) {
         Ok(checked) => Ok(checked),
-        Err(fault) => Err(SpecFault::Rules(fault)),
+        Err(fault) => Err(WorkFault::Rules(fault)),
     }
 }
 
-/// Protects a term, once it is known to be one that can be evaluated.
+/// Checks that a term can be evaluated, and protects it. Returns an error, without a protection, if
+/// it violates one of the rules T1 to T6, if it is protected as often as possible already, or if
+/// the store or an allocation fails. No tree is lost in any case.
 pub fn admit<B: TermBank>(
     alloc: Global,
     checked: &Checked,
     bank: &mut B,
     t: Term,
-) -> Result<(), EvaluationFault>
+) -> Result<(), WorkFault>
     requires { IsSome (tree_at (B.store bank.old) t) }
     ensures given { OnOk result (IsGiven checked.now.spec (B.store bank.new) t) }
     ensures protected { OnOk result (0 < (B.store bank.new).roots t.0) }
@@ -59,7 +61,8 @@ pub fn admit<B: TermBank>(
     Ok(())
 }
 
-/// An engine for a specification over a bank, in which what is to stay is protected.
+/// Returns an engine for a specification over a store. Terms that have to stay are protected
+/// before.
 pub fn engine_over<B: TermBank + Drop>(
     alloc: Global,
     checked: Checked,
@@ -73,8 +76,8 @@ pub fn engine_over<B: TermBank + Drop>(
     Engine::new(alloc, checked, bank, OPTIONS)
 }
 
-/// The value of a term; `None` where it takes more than `n` steps. It stays until the next term is
-/// evaluated.
+/// Evaluates a term. Returns its normal form, which lives until the next evaluation, or `None` if
+/// it takes more than `n` steps.
 pub fn value_of<B: TermBank>(
     engine: &mut Engine<B>,
     t: Term,
@@ -93,13 +96,13 @@ pub fn value_of<B: TermBank>(
     }
 }
 
-/// The printed text of that value.
+/// Evaluates a term and prints its normal form. Returns `None` if it takes more than `n` steps.
 pub fn value_text<B: TermBank>(
     alloc: Global,
     engine: &mut Engine<B>,
     t: Term,
     n: u64,
-) -> Result<Option<Vec<u8>>, EvaluationFault>
+) -> Result<Option<Vec<u8>>, WorkFault>
     requires { IsGiven engine.old.spec (B.store engine.old.bank) t }
     ensures text { IfOk result (λ text. (u : Tree) → tree_at (B.store engine.old.bank) t ≡ Some u →
         option_map (λ v. v.items) text ≡ value_text engine.old.spec n u) }
@@ -113,13 +116,14 @@ pub fn value_text<B: TermBank>(
     Ok(Some(text_of(alloc, engine.bank(), value)?))
 }
 
-/// The same of the specification's own term of a number, from 0.
+/// Evaluates the EVAL term with index `i`, from 0, and prints its normal form. Returns `None` if it
+/// takes more than `n` steps.
 pub fn own_value_text<B: TermBank>(
     alloc: Global,
     engine: &mut Engine<B>,
     i: u32,
     n: u64,
-) -> Result<Option<Vec<u8>>, EvaluationFault>
+) -> Result<Option<Vec<u8>>, WorkFault>
     requires { i < length engine.old.spec.terms }
     ensures text { IfOk result (λ text. (u : Tree) → eval_tree engine.old.spec i ≡ Some u →
         option_map (λ v. v.items) text ≡ value_text engine.old.spec n u) }

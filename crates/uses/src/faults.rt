@@ -1,4 +1,4 @@
-//! What a caller of several crates answers where one of them refuses.
+//! Errors of a client that calls several crates: each error of a crate is one variant.
 
 use rec_engine::EngineFault;
 use rec_sorts::{SortFault, TermsFault};
@@ -9,65 +9,46 @@ use rx_text::{TextFault, WriteFault};
 use std::alloc::AllocError;
 use thiserror::Error;
 
-/// Why a piece of work was not done.
-#[derive(Clone, Copy, PartialEq, Eq, Debug, Drop, Error)]
+/// The error of work with terms, patterns and specifications.
+#[derive(Debug, Drop, Error)]
 pub enum WorkFault {
-    /// The bank could not grow.
+    /// The store could not grow.
     #[error("{0}")]
     Bank(#[from] BankFault),
-    /// A text was not read.
-    #[error("{0}")]
-    Text(#[from] TextFault),
-    /// A term was not printed.
-    #[error("{0}")]
-    Write(#[from] WriteFault),
-    /// A term is no pattern, or was not matched.
-    #[error("{0}")]
-    Pattern(#[from] PatternFault),
-    /// No term was made.
-    #[error("{0}")]
-    Make(#[from] MakeFault),
-}
-
-/// Why a text is no specification that keeps its rules.
-#[derive(Debug, Drop, Error)]
-pub enum SpecFault {
-    /// The text was not read.
-    #[error("{0}")]
-    Syntax(#[from] SyntaxFault),
-    /// What it spells breaks a rule.
-    #[error("{0}")]
-    Rules(#[from] SortFault),
-}
-
-/// Why a term was not evaluated.
-#[derive(Debug, Drop, Error)]
-pub enum EvaluationFault {
-    /// Its text was not read.
-    #[error("{0}")]
-    Text(#[from] TextFault),
-    /// It is no term of the specification.
-    #[error("{0}")]
-    Terms(#[from] TermsFault),
-    /// The bank could not grow.
-    #[error("{0}")]
-    Bank(#[from] BankFault),
-    /// It is protected as often as it can be.
+    /// A term is protected as often as possible.
     #[error("{0}")]
     Roots(#[from] RootsFull),
-    /// The engine gave up.
+    /// The text of a term could not be read.
     #[error("{0}")]
-    Engine(#[from] EngineFault),
-    /// The value was not printed.
+    Text(#[from] TextFault),
+    /// A term could not be printed.
     #[error("{0}")]
     Write(#[from] WriteFault),
-    /// Memory ran out.
+    /// A term is not a pattern, or matching failed.
+    #[error("{0}")]
+    Pattern(#[from] PatternFault),
+    /// No term was made from a pattern.
+    #[error("{0}")]
+    Make(#[from] MakeFault),
+    /// The text of a specification could not be read.
+    #[error("{0}")]
+    Syntax(#[from] SyntaxFault),
+    /// A specification violates a rule.
+    #[error("{0}")]
+    Rules(#[from] SortFault),
+    /// A term is not one of the specification.
+    #[error("{0}")]
+    Terms(#[from] TermsFault),
+    /// The engine reported an error.
+    #[error("{0}")]
+    Engine(#[from] EngineFault),
+    /// An allocation failed.
     #[error("out of memory")]
     Memory,
 }
 
-impl From<AllocError> for EvaluationFault {
-    fn from(_error: AllocError) -> EvaluationFault {
-        EvaluationFault::Memory
+impl From<AllocError> for WorkFault {
+    fn from(_error: AllocError) -> WorkFault {
+        WorkFault::Memory
     }
 }

@@ -1,4 +1,4 @@
-//! Keeping one term and giving up the rest.
+//! Keeping one term and freeing the rest.
 
 ghost use Rattle.std.specs.Prelude.{◌≡◌, ℕ, IsSome, Some, IfOk, IfErr, [], ◌∷◌};
 ghost use Rattle.rx_term.specs.Tree.{Tree};
@@ -8,8 +8,8 @@ ghost use Rattle.rx_term.specs.declared.Term.{Term};
 
 use rx_term::{RootsFull, Term, TermBank};
 
-/// Gives up what neither `t` nor a protected term needs, and counts what is left. Nothing changes
-/// where `t` is protected as often as it can be.
+/// Collects everything that neither `t` nor a protected term needs, and returns the number of cells
+/// that stay. Returns an error, and changes nothing, if `t` is protected as often as possible.
 pub fn keep<B: TermBank>(bank: &mut B, t: Term) -> Result<u32, RootsFull>
     requires { IsSome (tree_at (B.store bank.old) t) }
     ensures kept { tree_at (B.store bank.new) t ≡ tree_at (B.store bank.old) t }

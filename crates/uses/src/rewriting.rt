@@ -1,4 +1,4 @@
-//! Patterns from texts, and a rewriting step by two of them.
+//! Patterns from texts, and one rewriting step with two of them.
 
 ghost use Rattle.std.specs.Prelude.{◌≡◌, IsSome, Some, None, IfOk};
 ghost use Rattle.rx_term.specs.Tree.{Tree};
@@ -14,7 +14,8 @@ use rx_term::{Term, TermBank};
 use rx_text::read;
 use std::alloc::Global;
 
-/// The pattern that a text spells.
+/// Reads a pattern from a text. Returns an error if the text is not a term or not a pattern, or if
+/// the store or an allocation fails.
 pub fn pattern<B: TermBank>(alloc: Global, bank: &mut B, text: &[u8]) -> Result<Pattern, WorkFault>
     ensures spelt { IfOk result (λ p. IsVerdict text.now (Spelt p)) }
     ensures fit { IfOk result (λ p. unfit p ≡ None) }
@@ -24,7 +25,9 @@ pub fn pattern<B: TermBank>(alloc: Global, bank: &mut B, text: &[u8]) -> Result<
     Ok(Pattern::of(alloc, bank, t)?)
 }
 
-/// What `right` makes of what `left` binds in a term; `None` where `left` does not match it.
+/// Returns the term that `right` makes of the bindings of `left` in a term, or `None` if `left`
+/// does not match it. Returns an error if the bindings do not fit `right`, or if the store or an
+/// allocation fails.
 pub fn rewrite<B: TermBank>(
     alloc: Global,
     bank: &mut B,

@@ -1,5 +1,4 @@
-//! An engine that stays: terms are given to it one after the other, and some of their values are
-//! kept.
+//! An engine that stays: it evaluates one request after another, and some of the results are kept.
 
 ghost use Rattle.std.specs.Prelude.{◌≡◌, ◌-◌, [], IsSome, Some, IfOk, IfSome, option_map};
 ghost use Rattle.rx_term.specs.Tree.{Tree};
@@ -13,7 +12,7 @@ ghost use Rattle.rec_engine.specs.Engine.{Spells, SameEngine};
 ghost use Rattle.uses.specs.Evaluated.{IsHeld, value_within, value_text};
 ghost use Rattle.uses.specs.Kept.{KeepsRoots, IsProtected};
 
-use crate::EvaluationFault;
+use crate::WorkFault;
 use crate::evaluating::{value_of, value_text};
 use crate::texts::{only, text_of};
 use rec_engine::Engine;
@@ -22,13 +21,13 @@ use rx_term::{Term, TermBank};
 use rx_text::{WriteFault, read};
 use std::alloc::Global;
 
-/// The numbered words of a term, once it is known to be one that can be evaluated.
+/// Checks that a term can be evaluated, and returns its postfix items.
 fn letters_of<B: TermBank>(
     alloc: Global,
     checked: &Checked,
     bank: &mut B,
     t: Term,
-) -> Result<Vec<Letter>, EvaluationFault>
+) -> Result<Vec<Letter>, WorkFault>
     requires { IsSome (tree_at (B.store bank.old) t) }
     ensures { IfOk result (λ ls. (u : Tree) → tree_at (B.store bank.old) t ≡ Some u →
         Spells checked.now.spec ls.items u) }
@@ -42,14 +41,14 @@ fn letters_of<B: TermBank>(
     }
 }
 
-/// The same of the term that a text spells. It is read in a bank for such texts alone, so that
-/// names that the specification has not never come to the engine's bank.
+/// Reads and checks the term that a text spells, and returns its postfix items. The text is read
+/// into a store for requests only, so that unknown names do not enter the engine's store.
 pub fn request<B: TermBank>(
     alloc: Global,
     checked: &Checked,
     requests: &mut B,
     text: &[u8],
-) -> Result<Vec<Letter>, EvaluationFault>
+) -> Result<Vec<Letter>, WorkFault>
     ensures { IfOk result (λ ls. (u : Tree) × IsVerdict text.now (Spelt u)
         × Spells checked.now.spec ls.items u) }
 {
@@ -58,13 +57,13 @@ pub fn request<B: TermBank>(
     Ok(letters)
 }
 
-/// The printed value of a request; `None` where it takes more than `n` steps.
+/// Evaluates a request and prints its normal form. Returns `None` if it takes more than `n` steps.
 pub fn answer<B: TermBank>(
     alloc: Global,
     engine: &mut Engine<B>,
     letters: &[Letter],
     n: u64,
-) -> Result<Option<Vec<u8>>, EvaluationFault>
+) -> Result<Option<Vec<u8>>, WorkFault>
     requires { (u : Tree) × Spells engine.old.spec letters.now u }
     ensures text { IfOk result (λ text. (u : Tree) → Spells engine.old.spec letters.now u →
         option_map (λ v. v.items) text ≡ value_text engine.old.spec n (tree_of (term_of u))) }
@@ -75,13 +74,13 @@ pub fn answer<B: TermBank>(
     value_text(alloc, engine, t, n)
 }
 
-/// The value of a request, which stays until it is let go; `None` where it takes more than `n`
-/// steps.
+/// Evaluates a request and protects its normal form, until `let_go` is called. Returns `None` if it
+/// takes more than `n` steps.
 pub fn kept_value<B: TermBank>(
     engine: &mut Engine<B>,
     letters: &[Letter],
     n: u64,
-) -> Result<Option<Term>, EvaluationFault>
+) -> Result<Option<Term>, WorkFault>
     requires { (u : Tree) × Spells engine.old.spec letters.now u }
     ensures value { IfOk result (λ r. (u : Tree) → Spells engine.old.spec letters.now u →
         IsHeld (B.store engine.new.bank) r
@@ -98,8 +97,8 @@ pub fn kept_value<B: TermBank>(
     Ok(Some(value))
 }
 
-/// The text of a value that was kept, which is let go then; it stays where the text is not
-/// printed.
+/// Prints a normal form that was kept, and removes its protection. If printing fails, it stays
+/// protected.
 pub fn let_go<B: TermBank>(
     alloc: Global,
     engine: &mut Engine<B>,

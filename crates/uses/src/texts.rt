@@ -13,7 +13,7 @@ use rx_term::{BankFault, Term, TermBank};
 use rx_text::{WriteFault, laws, read, write};
 use std::alloc::Global;
 
-/// A name with the line and the column at which it stands in some source: `x{at(3,7)}`.
+/// Makes a name annotated with its line and column in some source: `x{at(3,7)}`.
 pub fn name_at<B: TermBank>(
     bank: &mut B,
     name: &[u8],
@@ -32,7 +32,7 @@ pub fn name_at<B: TermBank>(
     bank.annotated(plain, notes)
 }
 
-/// `at(line,column)`.
+/// Makes `at(line,column)`.
 pub fn place<B: TermBank>(bank: &mut B, line: i32, column: i32) -> Result<Term, BankFault>
     ensures tree { IfOk result (λ r. tree_at (B.store bank.new) r ≡
         Some (Appl (codes "at") false (more (Int line none) (more (Int column none) none)) none)) }
@@ -43,7 +43,7 @@ pub fn place<B: TermBank>(bank: &mut B, line: i32, column: i32) -> Result<Term, 
     bank.appl(at, both)
 }
 
-/// The list of two integers.
+/// Makes the list of two integers.
 fn numbers<B: TermBank>(bank: &mut B, first: i32, second: i32) -> Result<Term, BankFault>
     ensures tree { IfOk result (λ r. tree_at (B.store bank.new) r ≡
         Some (list_of (more (Int first none) (more (Int second none) none)))) }
@@ -55,7 +55,7 @@ fn numbers<B: TermBank>(bank: &mut B, first: i32, second: i32) -> Result<Term, B
     bank.cons(head, list)
 }
 
-/// The list of one term.
+/// Makes the list of one term.
 pub fn only<B: TermBank>(bank: &mut B, t: Term) -> Result<Term, BankFault>
     requires { IsSome (tree_at (B.store bank.old) t) }
     ensures tree { IfOk result (λ r. (u : Tree) → tree_at (B.store bank.old) t ≡ Some u →
@@ -66,7 +66,7 @@ pub fn only<B: TermBank>(bank: &mut B, t: Term) -> Result<Term, BankFault>
     bank.cons(t, nil)
 }
 
-/// The printed text of a term.
+/// Returns the printed text of a term.
 pub fn text_of<B: TermBank>(alloc: Global, bank: &B, t: Term) -> Result<Vec<u8>, WriteFault>
     requires { IsSome (tree_at (B.store bank.now) t) }
     ensures { IfOk result
@@ -77,7 +77,7 @@ pub fn text_of<B: TermBank>(alloc: Global, bank: &B, t: Term) -> Result<Vec<u8>,
     Ok(text)
 }
 
-/// Prints a term and reads the text, which gives the same reference, since equal terms are one.
+/// Prints a term and reads the text. The result is the same reference, since equal terms are one.
 pub fn read_back<B: TermBank>(alloc: Global, bank: &mut B, t: Term) -> Result<Term, WorkFault>
     requires { IsSome (tree_at (B.store bank.old) t) }
     ensures same { IfOk result (λ r. r ≡ t) }

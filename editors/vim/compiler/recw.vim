@@ -5,4 +5,4 @@ endif
 let current_compiler = 'recw'
 
 CompilerSet makeprg=recw\ check\ %:S
-CompilerSet errorformat=%f:%l:%c:\ %t%n:\ %m,%f:%l:%c:\ %m
+CompilerSet errorformat=%f:%l:%c:\ %trror:\ %m,%f:%l:%c:\ %tarning:\ %m

@@ -1,4 +1,4 @@
--- What a handle owns: relates the pointer that it holds to its work.
+-- Ownership of a handle: relates its pointer to its work.
 use Rattle.std.specs.Prelude.{Option, Some, None}
 use base.Fml.{Fml, ftrue}
 use denote.RawPtr.{Ptr}
@@ -7,7 +7,7 @@ use Rattle.std.specs.contracts.impls.GlobalAllocator.TheImpl.{ghosts}
 use Rattle.psilt_work.specs.declared.work.Work.{Work}
 use Rattle.psilt_work.specs.contracts.work.Work.{the_row}
 
--- the box of the work at the pointer, or nothing where there is none
+-- boxed_if p w: the pointer owns the box of the work, or there is no work and it owns nothing
 abbrev pub boxed_if : Ptr → Option Work → Fml
 boxed_if p None = ftrue
 boxed_if p (Some w) =

@@ -1,44 +1,47 @@
--- Terms of constructors with their letters and their texts.
---     IsGroundOf y g         a value holds the letters and the text of a ground term
---     AreJoined y ss ls o n  letters and text of ground terms of these sorts, one behind the other
---     IsCallOf y d g         a value holds those of a call of a symbol over ground terms
---     IsAsker a              the left sides of a specification, of which calls are asked
---     IsExampleOf y k e      the text of a call of a symbol that no left side matches
-use Rattle.std.specs.Prelude.{ℕ, ◌≡◌, All, List, [], ◌∷◌, ◌++◌, Some, map, slice_get}
+-- Constructor terms with their postfix items and their texts.
+--     IsGroundOf y g         `g` holds the items and the text of a ground term
+--     AreJoined y ss ls o n  the concatenated items and texts of ground terms of these sorts
+--     IsCallOf y d g         `g` holds those of a call of a symbol with ground arguments
+--     IsAsker a              the left-hand sides of a specification, for comparison with calls
+--     IsExampleOf y k e      the text of a call of a symbol that no left-hand side matches
+use Rattle.std.specs.Prelude.{ℕ, ◌≡◌, ◌+◌, All, List, [], ◌∷◌, ◌++◌, Some, length, map, slice_get}
 use Rattle.rx_term.specs.Tree as tree
 use Rattle.rx_text.specs.Canon.{canon, canon_all}
 use Rattle.rec_syntax.specs.Syntax.{Term, Terms, Declaration, Spec, arguments, head}
 use Rattle.rec_sorts.specs.Binding.{instances, tree_of}
-use Rattle.rec_sorts.specs.Lookup.{symbols}
+use Rattle.rec_sorts.specs.Lookup.{names, symbols}
 use Rattle.rec_sorts.specs.Numbering.{AreLetters, IsMeaning, named_all, named_by}
+use Rattle.rec_sorts.specs.SpecRules.{all_terms, heads}
 use Rattle.rec_sorts.specs.declared.letters.Letter.{Letter}
-use Rattle.rec_check.specs.Findings.{ShowsCall, as_example}
+use Rattle.rec_check.specs.Findings.{ShowsCall, as_diagnostic}
 use Rattle.rec_check.specs.Inner.Rewriters.{IsRewriter}
 use Rattle.rec_check.specs.Lookups.{Knows}
 use Rattle.rec_check.specs.Uncovered.{AreGround, IsGround, sorts_due}
-use Rattle.rec_check.specs.declared.finding.Example.{Example}
+use Rattle.rec_check.specs.declared.finding.Diagnostic.{Diagnostic}
 use Rattle.rec_check.specs.declared.uncovered.Asker.{Asker}
 use Rattle.rec_check.specs.declared.uncovered.Ground.{Ground}
 
--- the letters and the text of a term
+-- IsShown y t letters text: the postfix items and the text of a term
 pub record IsShown (y : Spec) (t : Term) (letters : List Letter) (text : List ℕ) : Type 0 where
   pub spelled : AreLetters y letters t
   pub shown : text ≡ canon (tree_of t)
 
--- a ground term of its sort
+-- IsGroundOf y g: the items and the text of a ground term of its sort
 abbrev pub IsGroundOf : Spec → Ground → Type 0
 IsGroundOf y g = (t : Term) × IsGround y g.sort.now t × IsShown y t g.letters.items g.text.items
 
--- the sorts of ground terms
+-- sorts_had gs: the sorts of ground terms
 abbrev pub sorts_had : List Ground → List (List ℕ)
 sorts_had gs = map (λ g. g.sort.now) gs
 
--- arguments with what stands before each: a parenthesis, and then commas
+-- opened_text us: the texts of arguments, a parenthesis before the first and a comma before each
+-- other
 abbrev pub opened_text : tree.Trees → List ℕ
 opened_text tree.none = []
 opened_text (tree.more u us) = 40 ∷ canon_all (tree.more u us)
 
--- ground terms of these sorts, one behind the other, with the text behind another one
+-- AreJoined y sorts letters old new: the items of ground terms of these sorts; their text follows
+-- the old one
 pub record AreJoined (y : Spec) (sorts : List (List ℕ)) (letters : List Letter)
     (old new : List ℕ) : Type 0 where
   pub terms : Terms
@@ -47,7 +50,7 @@ pub record AreJoined (y : Spec) (sorts : List (List ℕ)) (letters : List Letter
   pub spelled : map (named_by y) letters ≡ named_all terms
   pub shown : new ≡ old ++ opened_text (instances [] terms)
 
--- a call of a symbol over ground terms of its arguments' sorts
+-- IsCallOf y d g: a call of a symbol with ground arguments of its declared sorts
 pub record IsCallOf (y : Spec) (d : Declaration) (g : Ground) : Type 0 where
   pub term : Term
   pub called : (head term).bytes ≡ d.name.bytes
@@ -55,21 +58,25 @@ pub record IsCallOf (y : Spec) (d : Declaration) (g : Ground) : Type 0 where
   pub shown : IsShown y term g.letters.items g.text.items
   pub sorted : g.sort.now ≡ d.sort.bytes
   pub placed : g.at ≡ d.name.at
+  pub ended : g.end ≡ d.name.at + length d.name.bytes
 
--- a call of the symbol of a number
+-- IsCallAt y k g: a call of the symbol with number `k`
 pub record IsCallAt (y : Spec) (k : ℕ) (g : Ground) : Type 0 where
   pub declaration : Declaration
   pub at : slice_get (symbols y) k ≡ Some declaration
   pub is_call : IsCallOf y declaration g
 
--- the left sides of a specification, and the names with which they begin
+-- IsAsker a: the left-hand sides of a specification, and the names of their symbols, of the
+-- constructors and of all used symbols
 pub record IsAsker (a : Asker) : Type 0 where
   pub rewriter : IsRewriter a.rewriter
   pub same : a.rewriter.checked.now ≡ a.checked.now
   pub begun : Knows a.begun (map (λ r. head r.left) a.checked.now.spec.rules)
+  pub made : Knows a.made (names a.checked.now.spec.constructors)
+  pub used : Knows a.used (heads (all_terms a.checked.now.spec))
 
--- a call of the symbol of a number that no left side matches
-pub record IsExampleOf (y : Spec) (k : ℕ) (e : Example) : Type 0 where
+-- IsExampleOf y k e: a call of the symbol with number `k` that no left-hand side matches
+pub record IsExampleOf (y : Spec) (k : ℕ) (e : Diagnostic) : Type 0 where
   pub declaration : Declaration
   pub at : slice_get (symbols y) k ≡ Some declaration
-  pub shows : ShowsCall y declaration (as_example e)
+  pub shows : ShowsCall y declaration (as_diagnostic e)

@@ -1,11 +1,11 @@
-//! Rules that are never tried or never match, behind other findings.
+//! Diagnostics of unreachable rules and of rules that cannot match.
 
 ghost use Rattle.std.specs.Prelude.{◌≡◌, ◌++◌, ◌<◌, [], IfSome, OnOk, Option, get_or, length, map};
 ghost use Rattle.rec_syntax.specs.Syntax as syntax;
 ghost use Rattle.rec_syntax.specs.Syntax.{arguments, head};
 ghost use Rattle.rec_syntax.specs.Tokens as tokens;
 ghost use Rattle.rec_sorts.specs.Numbering.{AreLetters};
-ghost use Rattle.rec_check.specs.Findings.{as_findings, found_by, never_matching_in, never_tried};
+ghost use Rattle.rec_check.specs.Findings.{as_diagnostics, found_by, never_matching_in, never_tried};
 ghost use Rattle.rec_check.specs.Inner.Inside.{never_matching_inside};
 ghost use Rattle.rec_check.specs.Named.{as_word, as_words};
 ghost use Rattle.rec_check.specs.Inner.Rewriters.{IsRewriter};
@@ -13,47 +13,50 @@ ghost use Rattle.rec_check.specs.Rewriting.{IsFirstWord, postorder_all};
 ghost use Rattle.rec_check.specs.Inner.Trials.{AreSizes};
 
 use crate::broken::head_of;
-use crate::finding::{Finding, Kind, Shown};
+use crate::finding::{Diagnostic, Kind};
+use crate::located::Word;
 use crate::matching::{Terms, Values, sizes};
 use crate::rewriting::{Rewriter, inner_words, letters};
-use crate::words::Word;
 use std::alloc::{AllocError, Global};
 
 impl<'a> Rewriter<'a> {
-    /// What is found at a word where a rule rewrites what it begins, behind other findings.
+    /// Appends a diagnostic at a word, if there is a rule that rewrites the term that the word
+    /// begins.
     fn push(
         &self,
         kind: Kind,
         word: Word<'_>,
         rule: Option<usize>,
-        found: &mut Vec<Finding<'a>>,
+        found: &mut Vec<Diagnostic>,
     ) -> Result<(), AllocError>
         requires rules { IsRewriter self.now }
         requires within { IfSome rule (λ i. i < length self.now.checked.now.spec.rules) }
         ensures { OnOk result ((o : Option tokens.Word)
             → IsFirstWord self.now.checked.now.spec rule o
-            → as_findings found.new.items ≡ as_findings found.old.items
+            → as_diagnostics found.new.items ≡ as_diagnostics found.old.items
             ++ found_by kind self.now.checked.now.source (as_word word.entry) o) }
     {
         if let Some(rule) = rule {
-            found.push(Finding {
+            let shown = self.spots[rule].text(*found.allocator())?;
+            found.push(Diagnostic {
                 at: word.at,
-                shown: Shown::Place(self.spots[rule]),
+                end: word.at + word.bytes.len(),
                 kind,
+                shown,
             })?;
         }
         Ok(())
     }
 
-    /// The rules that are never tried, behind other findings.
+    /// Appends the unreachable rules.
     pub(crate) fn push_never_tried(
         &self,
         alloc: Global,
         values: &mut Values<'a>,
-        found: &mut Vec<Finding<'a>>,
+        found: &mut Vec<Diagnostic>,
     ) -> Result<(), AllocError>
         requires { IsRewriter self.now }
-        ensures { OnOk result (as_findings found.new.items ≡ as_findings found.old.items
+        ensures { OnOk result (as_diagnostics found.new.items ≡ as_diagnostics found.old.items
             ++ never_tried self.now.checked.now.source self.now.checked.now.spec []
             self.now.checked.now.spec.rules) }
     {
@@ -66,15 +69,15 @@ impl<'a> Rewriter<'a> {
         Ok(())
     }
 
-    /// Those of the arguments inside a rule's left side of these letters that are rewritten first,
-    /// behind other findings, where they begin with these words.
+    /// Appends the arguments inside a rule's left-hand side that are rewritten first. `words` are
+    /// their first words.
     fn push_inner_words(
         &self,
         rule: usize,
         words: &[Word<'_>],
         left: Terms<'a, '_>,
         values: &mut Values<'a>,
-        found: &mut Vec<Finding<'a>>,
+        found: &mut Vec<Diagnostic>,
     ) -> Result<(), AllocError>
         requires rules { IsRewriter self.now }
         requires letters { (r : _) → AreLetters self.now.checked.now.spec left.letters.now
@@ -82,8 +85,8 @@ impl<'a> Rewriter<'a> {
         requires sizes { AreSizes left.letters.now left.sizes.now }
         requires words { (r : _) → as_words words.now ≡ map head
             (postorder_all (arguments (get_or self.now.checked.now.spec.rules rule r).left)) }
-        ensures { (r : _) → OnOk result (as_findings found.new.items
-            ≡ as_findings found.old.items
+        ensures { (r : _) → OnOk result (as_diagnostics found.new.items
+            ≡ as_diagnostics found.old.items
             ++ never_matching_in self.now.checked.now.source self.now.checked.now.spec
             (postorder_all (arguments (get_or self.now.checked.now.spec.rules rule r).left))) }
     {
@@ -95,18 +98,18 @@ impl<'a> Rewriter<'a> {
         Ok(())
     }
 
-    /// The arguments inside a rule's left side that are rewritten first, behind other findings.
+    /// Appends the arguments inside a rule's left-hand side that are rewritten first.
     fn push_inner(
         &self,
         alloc: Global,
         rule: usize,
         values: &mut Values<'a>,
-        found: &mut Vec<Finding<'a>>,
+        found: &mut Vec<Diagnostic>,
     ) -> Result<(), AllocError>
         requires rules { IsRewriter self.now }
         requires rule { rule < length self.now.checked.now.spec.rules }
-        ensures { (r : _) → OnOk result (as_findings found.new.items
-            ≡ as_findings found.old.items
+        ensures { (r : _) → OnOk result (as_diagnostics found.new.items
+            ≡ as_diagnostics found.old.items
             ++ never_matching_in self.now.checked.now.source self.now.checked.now.spec
             (postorder_all (arguments (get_or self.now.checked.now.spec.rules rule r).left))) }
     {
@@ -120,15 +123,15 @@ impl<'a> Rewriter<'a> {
         self.push_inner_words(rule, &words, left, values, found)
     }
 
-    /// The same of all rules.
+    /// Appends the arguments inside all left-hand sides that are rewritten first.
     pub(crate) fn push_never_matching(
         &self,
         alloc: Global,
         values: &mut Values<'a>,
-        found: &mut Vec<Finding<'a>>,
+        found: &mut Vec<Diagnostic>,
     ) -> Result<(), AllocError>
         requires { IsRewriter self.now }
-        ensures { OnOk result (as_findings found.new.items ≡ as_findings found.old.items
+        ensures { OnOk result (as_diagnostics found.new.items ≡ as_diagnostics found.old.items
             ++ never_matching_inside self.now.checked.now.source self.now.checked.now.spec) }
     {
         for rule in 0..self.spots.len() {

@@ -1,17 +1,18 @@
-//! An engine without its bank, so that the bank can be lent to others in between.
+//! An engine without its store, so that others can use the store in between.
 
 ghost use Rattle.std.specs.Prelude.{◌≡◌, length};
 
 use super::{Engine, Options};
-use crate::code::{Code, Op};
+use crate::compile::code::{Code, Op};
 use crate::heap::Heap;
-use crate::machine::{Machine, State};
-use crate::pace::Pace;
+use crate::heap::pace::Pace;
+use crate::vm::Machine;
+use crate::vm::state::State;
 use rec_sorts::Checked;
 use rx_term::{Term, TermBank};
 
-/// What an engine has besides its bank: the specification, its code, and what is remembered of the
-/// terms of that bank. With the bank it is an engine again, also where the bank has grown since.
+/// The specification, its code, and the memoized results for terms of a store. With the store it is
+/// an engine again, also if the store has grown since.
 #[derive(Drop)]
 pub struct Prepared {
     checked: Checked,
@@ -30,7 +31,7 @@ impl Prepared {
     ghost use Rattle.rx_term.specs.Walks.{AllHeld};
     ghost use Rattle.rec_engine.specs.Prepared.{FitsIn, spec_of, options_of, memo_of};
 
-    /// The engine over the bank.
+    /// Returns the engine over the store.
     pub fn over<B: TermBank>(self, bank: B) -> Engine<B>
         requires { FitsIn (B.store bank) self }
         ensures bank { result.bank ≡ bank }
@@ -63,8 +64,8 @@ impl Prepared {
         }
     }
 
-    /// The bank gives up all terms but those that its roots and these ones reach, and what is
-    /// remembered of the others is forgotten.
+    /// Collects garbage in the store: keeps the terms that its roots and `kept` reach, and forgets
+    /// memoized results of the others.
     pub fn reclaim<B: TermBank>(&mut self, bank: &mut B, kept: &[Term])
         requires fits { FitsIn (B.store bank.old) self.old }
         requires kept { AllHeld (B.store bank.old) kept.now }
@@ -78,14 +79,14 @@ impl Prepared {
         self.pace.reclaim(bank, kept);
     }
 
-    /// How many terms to evaluate the specification has.
+    /// Returns the number of EVAL terms.
     pub fn eval_terms(&self) -> u32
         ensures { result ≡ length (spec_of self.now).terms }
     {
         self.terms
     }
 
-    /// The specification.
+    /// Returns the specification.
     pub fn checked(&self) -> &Checked
         ensures { result.now.spec ≡ spec_of self.now }
     {
@@ -96,7 +97,7 @@ impl Prepared {
 impl<B: TermBank> Engine<B> {
     ghost use Rattle.rec_engine.specs.Prepared.{FitsIn, spec_of, options_of, memo_of};
 
-    /// The bank, and what the engine has besides.
+    /// Splits the engine into its store and the rest.
     pub fn apart(self) -> (B, Prepared)
         ensures bank { result.0 ≡ self.bank }
         ensures fits { FitsIn (B.store self.bank) result.1 }

@@ -1,4 +1,4 @@
--- How a trace is told by a tracer's turns.
+-- How the events of a tracer become the lines of a trace.
 use Rattle.std.specs.Prelude.{ℕ, zero, suc, ◌-◌, ◌≡◌, ◌≤◌, ◌==◌, ◌++◌, ◌∷◌, Bool, true, false, List}
 use Rattle.std.specs.Prelude.{[], Option}
 use Rattle.std.specs.Prelude.{Some, None, Vec, codes, decimal, drop, flat_map, if◌then◌else◌}
@@ -38,41 +38,41 @@ use Rattle.rec_look.specs.declared.kept.Place.TheVariants.{Front, Behind, Nowher
 use Rattle.rec_look.specs.declared.options.TraceOptions.{TraceOptions}
 use Rattle.rec_look.specs.declared.telling.Telling.{Telling}
 
--- it has the spots of a specification's rules, by the text of that
+-- the data has the locations of a specification's rules in its text
 abbrev pub IsTelling : List ℕ → Spec → Telling → Type 0
 IsTelling source y t = t.spots.items ≡ map (rule_spot source) y.rules
 
--- what is written of firings
+-- the text that is written for rewrites
 abbrev pub steps_lines : List ℕ → Shown → ℕ → List Firing → List ℕ
 steps_lines source shown n fs =
     joined (shown_lines shown.picked (picked_lines source shown n fs))
 
--- the line of what a term comes to, with a text of its annotations
+-- the line of the outcome of a term, with the text of its annotations
 abbrev pub end_line : Bool → ℕ → List ℕ → evaluation.Outcome Tree → List ℕ
 end_line counted n notes (evaluation.Done v left) =
     canon v ++ notes ++ steps_text counted (n - left) ++ codes "\n"
 end_line counted n notes evaluation.Over = codes "!limit " ++ decimal n ++ codes "\n"
 
--- all that is written of a trace
+-- the text that is written for rewrites and their outcome
 abbrev pub told : List ℕ → Shown → ℕ → List ℕ → Traced Tree → List ℕ
 told source shown n notes t = steps_lines source shown n t.firings
     ++ end_line shown.counted n notes t.outcome
 
--- where these are the lines of the picked firings so far, the front ones are written already: those
--- in front that more lines add, and all that is to be written yet
+-- the lines at the beginning that `ls` adds after the lines `before`
 abbrev pub fresh_lines : Picks → List (List ℕ) → List (List ℕ) → List (List ℕ)
 fresh_lines p before ls = drop (length (front_lines p before)) (front_lines p (before ++ ls))
 
+-- all lines that are still to be written if `ls` follows the lines `before`
 abbrev pub lines_behind : Picks → List (List ℕ) → List (List ℕ) → List (List ℕ)
 lines_behind p before ls = drop (length (front_lines p before)) (shown_lines p (before ++ ls))
 
--- all that is written yet of what is left of a trace
+-- the text that is still to be written for the rest of a trace
 abbrev pub told_behind : List ℕ → Shown → ℕ → List ℕ → List (List ℕ) → Traced Tree → List ℕ
 told_behind source shown n notes before t =
     joined (lines_behind shown.picked before (picked_lines source shown n t.firings))
     ++ end_line shown.counted n notes t.outcome
 
--- how many lines in front are still to be written; all, where there is no number
+-- the number of lines that are still to be written at once after `k` lines; all with `None`
 abbrev pub front_left : Picks → ℕ → Option ℕ
 front_left p k = elim p.first [
   | Some n ↦ Some (n - k)
@@ -83,35 +83,41 @@ front_left p k = elim p.first [
 abbrev pub texts_of : List (Vec ℕ Global) → List (List ℕ)
 texts_of lines = map (λ (line : Vec ℕ Global). line.items) lines
 
--- what is kept of a term's lines, where these are the lines of the picked firings so far
+-- the state after the lines `ls` of the selected rewrites so far
 pub record HasKept (p : Picks) (ls : List (List ℕ)) (k : Kept) : Type 0 where
   pub front : k.front ≡ front_left p (length ls)
   pub most : k.most ≡ back_count p
   pub last : texts_of k.last.items ≡ drop (left_out_count p ls) (rest_lines p ls)
   pub left_out : k.left_out ≡ left_out_count p ls
 
--- no more is left than there was at first
+-- at most `n` steps are left at the end
 abbrev pub LeavesWithin : ℕ → evaluation.Outcome Tree → Type 0
 LeavesWithin n (evaluation.Done v left) = left ≤ n
 LeavesWithin n evaluation.Over = Unit {0}
 
+-- at most `n` steps are left at each rewrite and at the end
 pub record IsWithin (n : ℕ) (t : Traced Tree) : Type 0 where
   pub firings : Every (λ (f : Firing). f.left ≤ n) t.firings
   pub outcome : LeavesWithin n t.outcome
 
--- a tracer came to what a trace comes to
+-- the outcome of a tracer is that of a trace
 abbrev pub IsEnd : Store → ℕ → evaluation.Outcome Tree → Outcome → Type 0
 IsEnd w n o (Value t steps) = (v : Tree) × (left : ℕ) × (tree_at w t ≡ Some v)
     × (o ≡ evaluation.Done v left) × (steps ≡ n - left)
 IsEnd w n o Limit = o ≡ evaluation.Over
 
--- the same as it is written, without the line end
+-- the step limit was too low
+abbrev pub is_passed : evaluation.Outcome Tree → Bool
+is_passed (evaluation.Done v left) = false
+is_passed evaluation.Over = true
+
+-- the line of the outcome of a trace, without the line end
 abbrev pub end_text : Store → Bool → ℕ → List ℕ → Outcome → List ℕ
 end_text w counted n notes (Value t steps) =
     canon (item_at w t) ++ notes ++ steps_text counted steps
 end_text w counted n notes Limit = codes "!limit " ++ decimal n
 
--- what becomes of a term's next line
+-- the destination of a term's next line
 abbrev pub place_of : Kept → Place
 place_of k = elim k.front [
   | None ↦ Front
@@ -121,7 +127,7 @@ place_of k = elim k.front [
   ]
 ]
 
--- what is kept takes up a firing, and this is the line that it adds in front, where it adds one
+-- the state after one more rewrite, with the line that this adds at the beginning, if it adds one
 pub record TakesUp (source : List ℕ) (options : TraceOptions) (before : List (List ℕ)) (f : Firing)
     (kept : Kept) (line : Option (Vec ℕ Global)) : Type 0 where
   pub kept_on : HasKept (picks_by options.picked)
@@ -130,7 +136,7 @@ pub record TakesUp (source : List ℕ) (options : TraceOptions) (before : List (
       (picked_lines source (shown_by options) options.run.steps (f ∷ []))
       ≡ texts_of (option_to_list line)
 
--- a firing was told: what is kept took it up, and what it adds in front was written
+-- the state after one more rewrite; the line that this adds at the beginning was written
 pub record Tells {W : Type 0} (contents : W → Option (List ℕ)) (source : List ℕ)
     (options : TraceOptions) (before : List (List ℕ)) (f : Firing) (kept : Kept)
     (out out' : Output W) (lines more : ℕ) : Type 0 where
@@ -139,7 +145,7 @@ pub record Tells {W : Type 0} (contents : W → Option (List ℕ)) (source : Lis
   pub printed : Prints contents out out' lines more (joined (fresh_lines (picks_by options.picked)
       before (picked_lines source (shown_by options) options.run.steps (f ∷ []))))
 
--- a rule fired, and was told
+-- a rule was applied, and its rewrite was recorded
 pub record HasTold {W : Type 0} (contents : W → Option (List ℕ)) (y : Spec) (w w' : Store)
     (old new : Tracer) (telling : Telling) (kept kept' : Kept) (out out' : Output W)
     (lines more : ℕ) : Type 0 where
@@ -150,7 +156,7 @@ pub record HasTold {W : Type 0} (contents : W → Option (List ℕ)) (y : Spec) 
       → HasKept (picks_by telling.options.picked) before kept
       → Tells contents source telling.options before firing kept' out out' lines more
 
--- a turn of a tracer was told; or nothing more fires, and this is what the trace comes to
+-- a rewrite was recorded; or there is no more, nothing has changed, and this is the outcome
 abbrev pub IsToldTurn : {W : Type 0} → (W → Option (List ℕ)) → Spec → Store → Store → Tracer
     → Tracer → Telling → Kept → Kept → Output W → Output W → ℕ → ℕ → Option Outcome → Type 0
 IsToldTurn contents y w w' old new telling kept kept' out out' lines more None =
@@ -165,21 +171,21 @@ pub record Begins (y : Spec) (w : Store) (n : ℕ) (tracer : Tracer) (t : Term) 
   pub trace : rest_of y w tracer ≡ Trace y n t
   pub whole : whole_of y w tracer ≡ tree_of t
 
--- a text is that of a tree's annotations
+-- a text is the text of a tree's annotations
 abbrev pub HasNotes : Vec ℕ Global → Tree → Type 0
 HasNotes text u = text.items ≡ notes_text (annotations u)
 
--- the letters of given terms that keep the rules, and the texts of their annotations
+-- the postfix items of input terms that violate no rule, and the texts of their annotations
 pub record AreGivenTerms (y : Spec) (us : List Tree) (g : GivenTerms) : Type 0 where
   pub letters : Pairwise (λ (ls : Vec Letter Global) (u : Tree).
       AreLetters y ls.items (evaluation.term_of u)) g.letters.items us
   pub notes : Pairwise HasNotes g.notes.items us
   pub kept : broken_by_elements y us ≡ None
 
--- what is written before the first firing of a term
+-- the text that is written before the first rewrite of a term
 abbrev pub first_text : Shown → Tree → List ℕ
 first_text shown u = elim shown.whole [ true ↦ whole_text 0 0 false shown.width 0 u | false ↦ [] ]
 
--- the traces of given terms
+-- the traces of input terms
 abbrev pub given_traces : List ℕ → Spec → Shown → ℕ → List Tree → List ℕ
 given_traces source y shown n us = flat_map (λ u. task_text source y shown n (given_task u)) us

@@ -1,4 +1,4 @@
--- Left sides that are made of letters.
+-- Entries of left-hand sides that are built from postfix items.
 use Rattle.std.specs.Prelude.{ℕ, ◌≡◌, ◌<◌, List, [], All, map, length, get_or, reverse}
 use Rattle.rec_syntax.specs.Syntax as R
 use Rattle.rec_syntax.specs.Syntax.{Spec, Rule}
@@ -10,17 +10,17 @@ use Rattle.rec_match.specs.Matching.{AreFilled}
 use Rattle.rec_match.specs.Ordered.{numbers_in}
 use Rattle.rec_match.specs.declared.matcher.LeftSide.{LeftSide}
 
--- the number of a left side's symbol
+-- IsHead y r k: `k` is the symbol at the root of the rule's left-hand side
 pub record IsHead (y : Spec) (r : Rule) (k : ℕ) : Type 0 where
   pub declared : k < length (symbols y)
   pub head : (R.head r.left).bytes ≡ name_of y (Symbol k)
 
--- the numbers of the symbols of all left sides
+-- AreHeads y fs: the symbols of all left-hand sides
 pub record AreHeads (y : Spec) (fs : List ℕ) : Type 0 where
   pub counted : length fs ≡ length y.rules
   pub each : (i : ℕ) (r : Rule) → i < length y.rules → IsHead y (get_or y.rules i r) (get_or fs i 0)
 
--- what is kept of a left side but for the rule that comes next
+-- IsLeftSide y r s: `s` is the entry of the rule's left-hand side, apart from the next rule
 pub record IsLeftSide (y : Spec) (r : Rule) (s : LeftSide) : Type 0 where
   pub is_head : IsHead y r s.symbol
   pub counted : count (R.arguments r.left) ≡ s.count
@@ -31,7 +31,7 @@ pub record IsLeftSide (y : Spec) (r : Rule) (s : LeftSide) : Type 0 where
   pub filled_letters : AreFilled y (reverse letters)
   pub variables : s.variables.items ≡ numbers_in [] letters
 
--- the left sides of the first rules, with the rules that come next
+-- AreSides y fs nexts sides n: the entries of the first `n` rules, with their next rules
 pub record AreSides (y : Spec) (fs nexts : List ℕ) (sides : List LeftSide) (n : ℕ) : Type 0 where
   pub long : length sides ≡ n
   pub each : (i : ℕ) (r : Rule) (s : LeftSide) → i < n

@@ -1,5 +1,5 @@
--- How matching trees grow: each node stands for rows that are left, and its children for what is
--- left of them.
+-- Growth of matching trees: each node represents rows, and its children represent what remains of
+-- them.
 use Rattle.std.specs.Prelude.{ℕ, ◌≡◌, ◌+◌, ◌<◌, ◌≤◌, ◌≢◌, suc, Bool, true, false, List, [], ◌∷◌}
 use Rattle.std.specs.Prelude.{◌++◌, Option, Some, None, All, length, get_or, bytes_eq, slice_range}
 use Rattle.std.specs.Option.{option_map}
@@ -20,33 +20,34 @@ use Rattle.rec_match.specs.declared.forest.Node.TheVariants.{Fail, Try, Switch}
 use Rattle.rec_match.specs.declared.forest.Place.{Place}
 use Rattle.rec_match.specs.declared.forest.Place.TheVariants.{First, Again}
 
--- what is left to ask at a node, and how many registers there are
+-- the rows that remain at a node, and the number of registers
 pub record State : Type 0 where
   pub width : ℕ
   pub rows : List Row
 
--- all registers of some cells are there
+-- Within n cs: the registers of these tests are below `n`
 abbrev pub Within : ℕ → List Cell → Type 0
 Within n cs = Every (λ (c : Cell). c.register < n) cs
 
+-- AllWithin n rows: this holds for each row
 abbrev pub AllWithin : ℕ → List Row → Type 0
 AllWithin n rows = Every (λ (row : Row). Within n row.cells) rows
 
--- the first place of a name
+-- position ns name: the first index of a name
 abbrev pub position : List (List ℕ) → List ℕ → Option ℕ
 position [] name = None
 position (n ∷ ns) name =
     elim (bytes_eq n name) [ true ↦ Some 0 | false ↦ option_map (λ k. suc k) (position ns name) ]
 
--- the name that a cell begins with
+-- name_in c: the name at the root of a test's pattern
 abbrev pub name_in : Cell → List ℕ
 name_in c = (R.head c.pattern).bytes
 
--- a cell asks for a variable's value
+-- IsVariable y c: the test is for a variable
 abbrev pub IsVariable : Spec → Cell → Type 0
 IsVariable y c = is_variable y (name_in c) ≡ true
 
--- the places of variables, of which some have values
+-- places_from ns cs: the positions of variables, after those named in `ns`
 abbrev pub places_from : List (List ℕ) → List Cell → List Place
 places_from ns [] = []
 places_from ns (c ∷ cs) = elim (position ns (name_in c)) [
@@ -54,12 +55,12 @@ places_from ns (c ∷ cs) = elim (position ns (name_in c)) [
   | Some v ↦ Again c.register v ∷ places_from ns cs
 ]
 
--- what nodes find whose rows are these
+-- reading_of y s: the meaning of nodes that represent the rows in `s`
 abbrev pub reading_of : Spec → (ℕ → State) → Reading
 reading_of y s =
     record { finds = λ n least us. first_row y least (s n).rows us; width = λ n. (s n).width }
 
--- the first row has variables alone, and the next node has the other rows
+-- GrowsTry: the first row has only variables left, and the next node represents the other rows
 pub record GrowsTry (y : Spec) (f : Forest) (s : ℕ → State) (n rule from to next : ℕ)
     (linear : Bool) : Type 0 where
   pub follows : Follows f (reading_of y s) n next
@@ -76,7 +77,7 @@ pub record GrowsTry (y : Spec) (f : Forest) (s : ℕ → State) (n rule from to 
   pub places : slice_range f.places.items from to ≡ places_from [] cells
   pub are_new : linear ≡ true → All IsNew (slice_range f.places.items from to)
 
--- a name with a number of arguments is that of a symbol with a child
+-- HasCase y ns cases name k: the name with `k` arguments is that of a symbol with a child
 pub record HasCase (y : Spec) (ns : List ℕ) (cases : Cases) (name : List ℕ) (k : ℕ) : Type 0 where
   pub symbol : ℕ
   pub declared : symbol < length (symbols y)
@@ -84,8 +85,8 @@ pub record HasCase (y : Spec) (ns : List ℕ) (cases : Cases) (name : List ℕ) 
   pub named : name ≡ name_of y (Symbol symbol)
   pub counted : k ≡ arity_of y symbol
 
--- each child of a switch over all rows has what is left of the rows for its symbol, and the other
--- node what is left where no child's symbol stands
+-- GrowsSwitch: each child represents what remains of the rows for its symbol, and the other node
+-- what remains for terms without a child
 pub record GrowsSwitch (y : Spec) (ns : List ℕ) (f : Forest) (s : ℕ → State) (n register other : ℕ)
     (cases : Cases) : Type 0 where
   pub registers : AllWithin (s n).width (s n).rows
@@ -108,6 +109,7 @@ pub record GrowsSwitch (y : Spec) (ns : List ℕ) (f : Forest) (s : ℕ → Stat
             (s n).rows;
       }
 
+-- Grows y ns f s n node: the node represents the rows in `s n`
 abbrev pub Grows : Spec → List ℕ → Forest → (ℕ → State) → ℕ → Node → Type 0
 Grows y ns f s n Fail = (s n).rows ≡ []
 Grows y ns f s n (Try rule from to next linear) = GrowsTry y f s n rule from to next linear
@@ -115,14 +117,14 @@ Grows y ns f s n (Switch register low from span other) =
     FitsSwitch y ns f (reading_of y s) n register other
     (record { children = f.children.items; low = low; from = from; span = span })
 
--- trees stand for rows, one after the other
+-- StandFor f s width rs rows: these roots together represent the rows, one after the other
 abbrev pub StandFor : Forest → (ℕ → State) → ℕ → List ℕ → List Row → Type 0
 StandFor f s width [] rows = rows ≡ []
 StandFor f s width (r ∷ rs) rows = (front : List Row) × (rest : List Row) × (rows ≡ front ++ rest)
     × (r < length f.nodes.items) × (s r ≡ record { width = width; rows = front })
     × StandFor f s width rs rest
 
--- matching trees that have grown from the rules of a specification
+-- HasGrown y ns f: the matching trees represent the rules of a specification
 pub record HasGrown (y : Spec) (ns : List ℕ) (f : Forest) : Type 0 where
   pub headed : Every (IsHeaded y) y.rules
   pub states : ℕ → State
@@ -133,7 +135,7 @@ pub record HasGrown (y : Spec) (ns : List ℕ) (f : Forest) : Type 0 where
       → StandFor f states (arity_of y k) (roots_at f k)
       (root_rows (name_of y (Symbol k)) (arity_of y k) 0 y.rules)
 
--- matching trees with more nodes, places and children; what stood keeps its state
+-- Extends f s g t: `g` has more nodes, positions and children; old nodes represent the same rows
 pub record Extends (f : Forest) (s : ℕ → State) (g : Forest) (t : ℕ → State) : Type 0 where
   pub nodes : length f.nodes.items ≤ length g.nodes.items
   pub new_places : List Place

@@ -1,4 +1,4 @@
--- The rules that a symbol's tree begins with.
+-- The rule chains that trees are built from.
 use Rattle.std.specs.Prelude.{ℕ, List, length}
 use Rattle.rec_syntax.specs.Syntax.{Spec}
 use Rattle.rec_sorts.specs.Lookup.{symbols}
@@ -6,7 +6,7 @@ use Rattle.rec_match.specs.Inner.Built.{AreHeads}
 use Rattle.rec_match.specs.Inner.Chains.{AreChains}
 use Rattle.rec_match.specs.declared.chain.Chains.{Chains}
 
--- chains of the rules of each symbol
+-- ChainsRules y c: `c` are the rule chains of each symbol
 pub record ChainsRules (y : Spec) (c : Chains) : Type 0 where
   pub symbols_of : List ℕ
   pub heads : AreHeads y symbols_of

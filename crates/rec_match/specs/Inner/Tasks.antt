@@ -1,5 +1,4 @@
--- Nodes of growing matching trees that wait for what is left to ask there, and the steps by which
--- trees grow.
+-- Pending nodes of growing matching trees, and the steps by which trees grow.
 use Rattle.std.specs.Prelude.{ℕ, ◌≡◌, ◌≢◌, ◌+◌, ◌<◌, ◌≤◌, ◌⊎◌, Bool, true, false, List, [], ◌∷◌}
 use Rattle.std.specs.Prelude.{◌++◌, All, length, map, get_or, set, ◌-◌, Some}
 use Rattle.rec_syntax.specs.Syntax.{Spec}
@@ -29,57 +28,58 @@ use Rattle.rec_match.specs.declared.grow.Pending.{Pending}
 use Rattle.rec_match.specs.declared.marks.Marks.{Marks}
 use Rattle.rec_match.specs.declared.parts.CodeRow.{CodeRow}
 
--- a node that waits: how many registers there are, and what is left to ask
+-- a pending node: the number of registers, and the rows that remain
 pub record Task : Type 0 where
   pub node : ℕ
   pub width : ℕ
   pub rows : List Coded
 
+-- task_of p: the pending node
 abbrev pub task_of : Pending → Task
 task_of p = record { node = p.node; width = p.width; rows = map coded_of p.rows.items }
 
--- no two symbols have one number in a bank
+-- AreApart y ns: different symbols have different numbers in the store
 abbrev pub AreApart : Spec → List ℕ → Type 0
 AreApart y ns = (i j : ℕ) → i < length (symbols y) → j < length (symbols y)
     → number_at ns i ≡ number_at ns j → i ≡ j
 
--- what the building of trees stands on
+-- IsGround y ns ps: the assumptions of tree building: distinct names and numbers, complete parts
 pub record IsGround (y : Spec) (ns : List ℕ) (ps : Parts) : Type 0 where
   pub symbols_differ : AreDistinct y
   pub variables_differ : AreDistinctVariables y
   pub numbers_differ : AreApart y ns
   pub whole : IsWhole ps
 
--- the parts of codes are there
+-- AreThere n cs: the parts of these tests exist
 abbrev pub AreThere : ℕ → List Code → Type 0
 AreThere n cs = Every (λ (c : Code). c.part < n) cs
 
--- codes are what is left of rows, and their parts and registers are there
+-- AreLeft: the coded rows represent these rows, and their parts and registers exist
 pub record AreLeft (y : Spec) (ps : Parts) (width : ℕ) (coded : List Coded) (rows : List Row)
     : Type 0 where
   pub are : AreRows y ps coded rows
   pub there : Every (λ (r : Coded). AreThere (length ps.parts.items) r.codes) coded
   pub registers : AllWithin width rows
 
--- what waits is what is left at a node
+-- IsTask y ps f s t: the rows of a pending node are those that it represents
 pub record IsTask (y : Spec) (ps : Parts) (f : Forest) (s : ℕ → State) (t : Task) : Type 0 where
   pub there : t.node < length f.nodes.items
   pub width : (s t.node).width ≡ t.width
   pub rows : AreLeft y ps t.width t.rows (s t.node).rows
 
--- a node waits
+-- Waits ts n: node `n` is pending
 abbrev pub Waits : List Task → ℕ → Type 0
 Waits [] n = ⊥
 Waits (t ∷ ts) n = (t.node ≡ n) ⊎ Waits ts n
 
--- each node waits, or it has grown
+-- Growing: each node is pending or represents its rows
 pub record Growing (y : Spec) (ns : List ℕ) (ps : Parts) (f : Forest) (ts : List Task)
     (s : ℕ → State) : Type 0 where
   pub tasks : Every (IsTask y ps f s) ts
   pub nodes : (n : ℕ) → n < length f.nodes.items
       → Waits ts n ⊎ Grows y ns f s n (get_or f.nodes.items n Fail)
 
--- what has grown stays, each node waits or has grown, and nodes that did not wait are as they were
+-- GoesOn: old nodes represent the same rows, and nodes that were not pending are unchanged
 pub record GoesOn (y : Spec) (ns : List ℕ) (ps : Parts) (f : Forest) (ts : List Task)
     (s : ℕ → State) (g : Forest) (us : List Task) : Type 0 where
   pub states : ℕ → State
@@ -88,11 +88,11 @@ pub record GoesOn (y : Spec) (ns : List ℕ) (ps : Parts) (f : Forest) (ts : Lis
   pub kept : (n : ℕ) → n < length f.nodes.items → (Waits ts n → ⊥)
       → (Waits us n → ⊥) × (get_or g.nodes.items n Fail ≡ get_or f.nodes.items n Fail)
 
--- a step of the building: whatever nodes stand for, they go on to stand for it
+-- Steps: a step of building; all nodes still represent their rows after it
 abbrev pub Steps : Spec → List ℕ → Parts → Forest → List Task → Forest → List Task → Type 0
 Steps y ns ps f ts g us = (s : ℕ → State) → Growing y ns ps f ts s → GoesOn y ns ps f ts s g us
 
--- the child of a symbol, and what is left of the rows there
+-- IsBranch: a child of a symbol represents what remains of the rows for it
 pub record IsBranch (y : Spec) (ns : List ℕ) (f : Forest) (s : ℕ → State) (n register number : ℕ)
     (child : Child) : Type 0 where
   pub symbol : ℕ
@@ -109,7 +109,7 @@ pub record IsBranch (y : Spec) (ns : List ℕ) (f : Forest) (s : ℕ → State) 
             (s n).rows;
       }
 
--- a window has children of symbols, and among them those of some from a place on
+-- Branches: the children in a window belong to symbols, and those of `ks` from index `m` on exist
 pub record Branches (y : Spec) (ns : List ℕ) (f : Forest) (s : ℕ → State) (n register low : ℕ)
     (ks : List ℕ) (window : List Child) (m : ℕ) : Type 0 where
   pub each : (q : ℕ) → q < length window → (get_or window q no_child).node ≢ 0
@@ -117,25 +117,25 @@ pub record Branches (y : Spec) (ns : List ℕ) (f : Forest) (s : ℕ → State) 
   pub all : (i : ℕ) → m ≤ i → i < length ks
       → (get_or window (number_at ns (get_or ks i 0) - low) no_child).node ≢ 0
 
--- the numbers of symbols stand in a window
+-- Covers ns ks low span: the numbers of these symbols lie in the window
 abbrev pub Covers : List ℕ → List ℕ → ℕ → ℕ → Type 0
 Covers ns ks low span = (i : ℕ) → i < length ks
     → (low ≤ number_at ns (get_or ks i 0)) × (number_at ns (get_or ks i 0) < low + span)
 
--- one node more
+-- AddsNode f g node: one node is added, at which no rule remains
 pub record AddsNode (f g : Forest) (node : ℕ) : Type 0 where
   pub node_is : node ≡ length f.nodes.items
   pub nodes : g.nodes.items ≡ f.nodes.items ++ Fail ∷ []
   pub places : g.places.items ≡ f.places.items
   pub children : g.children.items ≡ f.children.items
 
--- one node more, which waits
+-- Adds: one pending node is added
 pub record Adds (f : Forest) (ts : List Task) (g : Forest) (us : List Task) (width : ℕ)
     (coded : List Coded) (node : ℕ) : Type 0 where
   pub one : AddsNode f g node
   pub tasks : us ≡ ts ++ (record { node = node; width = width; rows = coded }) ∷ []
 
--- a rule stands at a node, with places
+-- WritesTry: the node becomes one that tries a rule, with these positions
 pub record WritesTry (f g : Forest) (n rule : ℕ) (pl : List Place) (next : ℕ) : Type 0 where
   pub linear : Bool
   pub are_new : linear ≡ true → All IsNew pl
@@ -145,7 +145,7 @@ pub record WritesTry (f g : Forest) (n rule : ℕ) (pl : List Place) (next : ℕ
   pub places : g.places.items ≡ f.places.items ++ pl
   pub children : g.children.items ≡ f.children.items
 
--- a switch stands at a node, with a window of children
+-- WritesSwitch: the node becomes a switch with this window of children
 pub record WritesSwitch (f g : Forest) (n register low : ℕ) (window : List Child) (other : ℕ)
     : Type 0 where
   pub nodes : g.nodes.items
@@ -153,13 +153,14 @@ pub record WritesSwitch (f g : Forest) (n register low : ℕ) (window : List Chi
   pub places : g.places.items ≡ f.places.items
   pub children : g.children.items ≡ f.children.items ++ window
 
--- children of some symbols from a place on were added while a node waits
+-- Branched: children of the symbols from index `m` on were added while a node is pending
 pub record Branched (y : Spec) (ns : List ℕ) (ps : Parts) (f : Forest) (ts : List Task)
     (s : ℕ → State) (t : Task) (g : Forest) (us : List Task) (register low : ℕ) (ks : List ℕ)
     (window : List Child) (m : ℕ) : Type 0 where
   pub goes : GoesOn y ns ps f (t ∷ ts) s g (t ∷ us)
   pub branches : Branches y ns g goes.states t.node register low ks window m
 
+-- BranchesOut: this holds for each pending node with these rows
 abbrev pub BranchesOut : Spec → List ℕ → Parts → Forest → List Task → ℕ → List Coded → Forest
     → List Task → ℕ → ℕ → List ℕ → List Child → ℕ → Type 0
 BranchesOut y ns ps f ts width coded g us register low ks window m = (n : ℕ) (s : ℕ → State)
@@ -167,7 +168,7 @@ BranchesOut y ns ps f ts width coded g us register low ks window m = (n : ℕ) (
     → Branched y ns ps f ts s (record { node = n; width = width; rows = coded }) g us register low
     ks window m
 
--- the first row has these places, and the other rows wait behind it
+-- TriesFirst: the first row becomes a leaf, and the remaining rows a pending node after it
 abbrev pub TriesFirst : Forest → List Task → ℕ → ℕ → ℕ → List Place → List Coded → Forest
     → List Task → Type 0
 TriesFirst f ts n width rule pl rest g us = (y : Spec) (ns : List ℕ) (ps : Parts) (cs : List Code)
@@ -176,27 +177,27 @@ TriesFirst f ts n width rule pl rest g us = (y : Spec) (ns : List ℕ) (ps : Par
     ((record { node = n; width = width; rows = (record { number = rule; codes = cs }) ∷ rest })
     ∷ ts) g us
 
--- nodes have grown on, and a root that is there stands for all rows
+-- TreeGoesOn: the forest has grown, and a root other than 0 represents all rows
 pub record TreeGoesOn (y : Spec) (ns : List ℕ) (ps : Parts) (f : Forest) (s : ℕ → State) (width : ℕ)
     (rows : List Row) (g : Forest) (root : ℕ) : Type 0 where
   pub goes : GoesOn y ns ps f [] s g []
   pub stands : root ≢ 0
       → (root < length g.nodes.items) × (goes.states root ≡ record { width = width; rows = rows })
 
--- a tree has grown at a root, or there is none
+-- HasTree: a tree has grown at the root, or there is none
 abbrev pub HasTree : Spec → List ℕ → Parts → Forest → ℕ → List Coded → Forest → ℕ → Type 0
 HasTree y ns ps f width coded g root = (s : ℕ → State) (rows : List Row) → Growing y ns ps f [] s
     → AreLeft y ps width coded rows → TreeGoesOn y ns ps f s width rows g root
 
--- rows wait at a node
+-- task n width rows: a pending node with these rows
 abbrev pub task : ℕ → ℕ → List CodeRow → Task
 task n width rows = record { node = n; width = width; rows = map coded_of rows }
 
--- what is left to ask at the nodes that wait
+-- tasks_of w: the pending nodes
 abbrev pub tasks_of : Growth → List Task
 tasks_of w = map task_of w.pending.items
 
--- what a grower stands on: a specification that is kept, its symbols in a bank, and its rules
+-- IsReady g: the inputs of tree building belong to one specification without violations
 pub record IsReady (g : Grower) : Type 0 where
   pub linked : length g.links.now ≡ length (symbols g.checked.now.spec)
   pub ground : IsGround g.checked.now.spec (numbers_of g.links.now) g.left.now.parts
@@ -204,30 +205,30 @@ pub record IsReady (g : Grower) : Type 0 where
       (length g.checked.now.spec.rules)
   pub chains : ChainsRules g.checked.now.spec g.chains.now
 
--- each symbol can be marked
+-- CanMark g marks: there is a mark for each symbol
 abbrev pub CanMark : Grower → Marks → Type 0
 CanMark g marks = HasMarks marks (length (symbols g.checked.now.spec))
 
--- a step of the building, of trees that grow from this
+-- StepsBy: a step of building with the inputs of a grower
 abbrev pub StepsBy : Grower → Forest → List Task → Forest → List Task → Type 0
 StepsBy g f ts h us = Steps g.checked.now.spec (numbers_of g.links.now) g.left.now.parts f ts h us
 
--- some nodes are such that a step can be made
+-- CanStep: all nodes are pending or represent their rows
 abbrev pub CanStep : Grower → Forest → List Task → Type 0
 CanStep g f ts = (s : ℕ → State)
     × Growing g.checked.now.spec (numbers_of g.links.now) g.left.now.parts f ts s
 
--- a step was made, or nothing changed
+-- StepsOrStays: a step was made, or the forest is unchanged
 abbrev pub StepsOrStays : Grower → Forest → List Task → Growth → Bool → Type 0
 StepsOrStays g f ts new true = StepsBy g f ts new.forest (tasks_of new)
 StepsOrStays g f ts new false = f ≡ new.forest
 
--- no node waits any more, or the building was given up where some nodes wait
+-- GrowsOut: no node is pending, or building stopped with pending nodes
 abbrev pub GrowsOut : Grower → Growth → Forest → Bool → Type 0
 GrowsOut g old new true = StepsBy g old.forest (tasks_of old) new []
 GrowsOut g old new false = (us : List Task) × StepsBy g old.forest (tasks_of old) new us
 
--- rows can get a tree
+-- CanGrow: a tree can grow for these rows
 pub record CanGrow (g : Grower) (f : Forest) (width : ℕ) (coded : List Coded) : Type 0 where
   pub states : ℕ → State
   pub rows : List Row

@@ -1,42 +1,52 @@
-//! What is due for the texts that were read.
+//! Writes the specified output for the texts that were read.
 
-ghost use Rattle.std.specs.Prelude.{◌≡◌, ◌≢◌, ℕ, IfErr, IfOk, OnOk};
-ghost use Rattle.rx_text.specs.Output.{IsSameOutput, IsWritable, Writes, contents_of};
+ghost use Rattle.std.specs.Prelude.{◌≡◌, ◌++◌, ℕ, IfErr, IfOk, OnOk};
+ghost use Rattle.rx_text.specs.Output.{Writes, contents_of};
 ghost use Rattle.rx_run.specs.Refusals.{ending_of, refusal_due};
 ghost use Rattle.rx_run.specs.Run.{Stops};
-ghost use Rattle.rx_run.specs.Streams.{TellsWrite};
-ghost use Rattle.rec_run.specs.Depth.{EndsBehind, HasRoomWithin, IsBounded, unbounded};
+ghost use Rattle.rx_run.specs.Streams.{ReportsWrite};
+ghost use Rattle.rec_run.specs.EvaluatedLines.{ReportsOutput};
+ghost use Rattle.rec_run.specs.Depth.{EndsBehind, IsBounded};
 ghost use Rattle.rec_run.specs.GivenTerms.{IsReady, IsRefused, run_due};
 ghost use Rattle.rec_run.specs.Output.{shown_of};
-ghost use Rattle.rec_run.specs.Run.{RoomExhausts};
+ghost use Rattle.rec_run.specs.Reports.{job_limits, job_report};
+ghost use Rattle.rec_run.specs.Run.{HasRoom, RoomExhausts};
 
-use crate::depth::RunDepthFault;
 use crate::observer::{Observer, Profiler};
-use crate::options::RunSettings;
+use crate::options::Run;
+use crate::reporter::Reporter;
 use crate::spec::evaluated::{Left, write_evaluated};
 use crate::spec::reading::Job;
 use rec_engine::Watch;
 use rx_run::{Ending, Reading, Refusal, RunFault, write_refusal_to};
 use rx_term::{Term, TermBank};
 use rx_text::{Output, RefusedWrite};
-use std::alloc::Global;
 use std::io::Write;
 
-/// What a run over a bank leaves, where it may be said how many calls may wait.
+/// The result of a completed run.
+#[derive(Clone, Copy)]
+pub struct RunReport {
+    /// Whether the run is done or rejected an input, and with which error.
+    pub ending: Ending,
+    /// The number of limit lines that the run wrote.
+    pub limit_lines: u64,
+}
+
+/// The result of a run over a store of the caller.
 #[derive(Drop)]
-pub(crate) struct EndedWithin<B> {
-    /// How it ended.
-    pub(crate) end: Result<Ending, RunDepthFault>,
-    /// The bank.
-    pub(crate) bank: B,
-    /// What the last evaluation needed of the bank besides what is protected; nothing where none
-    /// began.
-    pub(crate) needed: Vec<Term>,
+pub struct EndedWithin<B> {
+    /// The report, or the error that ended the run.
+    pub end: Result<RunReport, RunFault>,
+    /// The store.
+    pub bank: B,
+    /// The terms that the last evaluation needed in the store, in addition to the protected ones.
+    /// Empty if no evaluation began.
+    pub needed: Vec<Term>,
 }
 
 impl<B: Drop> EndedWithin<B> {
-    /// How the run ended: the rest is let go.
-    pub(crate) fn into_end(self) -> Result<Ending, RunDepthFault>
+    /// Returns the end of the run, and drops the rest.
+    pub fn into_end(self) -> Result<RunReport, RunFault>
         ensures { result ≡ self.end }
     {
         let EndedWithin { end, bank, needed } = self;
@@ -46,41 +56,41 @@ impl<B: Drop> EndedWithin<B> {
     }
 }
 
-/// Writes what is due for the texts that were read, and flushes.
-pub(crate) fn answer<B: TermBank, W: Write, V: Watch, P: Profiler>(
-    alloc: Global,
+/// Writes the specified output for the texts that were read, and flushes.
+pub(crate) fn answer<B: TermBank, W: Write, V: Watch, P: Profiler, S: Reporter>(
+    run: Run,
     bank: B,
     reading: Reading<Job>,
     out: &mut Output<'_, W>,
-    settings: RunSettings,
-    observer: &mut Observer<V, P>,
+    observer: &mut Observer<V, P, S>,
 ) -> EndedWithin<B>
     requires unrooted { (t : ℕ) → (B.store bank).roots t ≡ 0 }
     requires ready { IsReady (B.store bank) reading }
-    requires open { IsWritable out.old }
-    ensures ends { IfOk (unbounded result.end) (λ ending. ending ≡ ending_of reading) }
-    ensures ok { OnOk (unbounded result.end) (Writes W.contents out.old out.new
-        (run_due (B.store bank) (shown_of settings) settings.options.steps reading).text) }
-    ensures err { IfErr (unbounded result.end)
+    ensures ends { IfOk result.end (λ report. report.ending ≡ ending_of reading) }
+    ensures limits { IfOk result.end (λ report. report.limit_lines
+        ≡ job_limits (B.store bank) run.settings.form run.settings.options.steps reading) }
+    ensures ok { OnOk result.end (Writes W.contents out.old out.new
+        (run_due (B.store bank) (shown_of run.settings) run.settings.options.steps reading).text) }
+    ensures err { IfErr result.end
         (λ fault. Stops fault (run_due (B.store bank)
-        (shown_of settings) settings.options.steps reading).text
+        (shown_of run.settings) run.settings.options.steps reading).text
         (contents_of W.contents out.old) (contents_of W.contents out.new)) }
-    ensures room { IfErr (unbounded result.end)
+    ensures room { IfErr result.end
         (RoomExhausts (B.store result.bank) result.needed.items) }
     ensures cap { (B.store result.bank).cap ≡ (B.store bank).cap }
     ensures unused { IsRefused reading → result.bank ≡ bank }
-    ensures cells { IsRefused reading → IfErr result.end HasRoomWithin }
-    ensures bounded { IfErr result.end (IsBounded settings.depth) }
-    ensures same_output { IsSameOutput out.old out.new }
-    ensures cause { TellsWrite out.new (unbounded result.end) }
-    ensures no_reader { IfErr (unbounded result.end) (λ fault. fault ≢ RunFault.Read) }
+    ensures cells { IsRefused reading → IfErr result.end HasRoom }
+    ensures bounded { IfErr result.end (IsBounded run.settings.depth) }
+    ensures reports { ReportsOutput out.old out.new result.end }
+    ensures told { OnOk result.end (S.told observer.new.reporter ≡ S.told observer.old.reporter
+        ++ job_report S.says (B.store bank) run.settings.options.steps reading) }
 {
     let ending = reading.ending();
     let Left {
         written,
         bank,
         needed,
-    } = write_due(alloc, bank, reading, out, settings, observer);
+    } = write_due(run, bank, reading, out, observer);
     EndedWithin {
         end: end_run(written, ending, out),
         bank,
@@ -88,80 +98,80 @@ pub(crate) fn answer<B: TermBank, W: Write, V: Watch, P: Profiler>(
     }
 }
 
-/// Flushes where all was written: how the run ends.
-fn end_run<W: Write>(
-    written: Result<(), RunDepthFault>,
+/// Flushes if everything was written, and returns the end of the run. `written` has the number of
+/// limit lines. If the flush fails, the error is `Write`.
+pub fn end_run<W: Write>(
+    written: Result<u64, RunFault>,
     ending: Ending,
     out: &mut Output<'_, W>,
-) -> Result<Ending, RunDepthFault>
-    requires told { TellsWrite out.old (unbounded written) }
+) -> Result<RunReport, RunFault>
+    requires told { ReportsWrite out.old out.old written }
     ensures ends { EndsBehind written ending (contents_of W.contents out.old)
         (contents_of W.contents out.new) result }
-    ensures same { IsSameOutput out.old out.new }
-    ensures cause { TellsWrite out.new (unbounded result) }
+    ensures reports { ReportsWrite out.old out.new result }
 {
     match written {
         Err(fault) => Err(fault),
-        Ok(()) => match out.flush() {
-            Err(_) => Err(RunDepthFault::Run(RunFault::Write)),
-            Ok(()) => Ok(ending),
+        Ok(limit_lines) => match out.flush() {
+            Err(_) => Err(RunFault::Write),
+            Ok(()) => Ok(RunReport {
+                ending,
+                limit_lines,
+            }),
         },
     }
 }
 
-/// Writes what is due.
-fn write_due<B: TermBank, W: Write, V: Watch, P: Profiler>(
-    alloc: Global,
+/// Writes the specified output for the texts that were read, without a flush.
+fn write_due<B: TermBank, W: Write, V: Watch, P: Profiler, S: Reporter>(
+    run: Run,
     bank: B,
     reading: Reading<Job>,
     out: &mut Output<'_, W>,
-    settings: RunSettings,
-    observer: &mut Observer<V, P>,
+    observer: &mut Observer<V, P, S>,
 ) -> Left<B>
     requires unrooted { (t : ℕ) → (B.store bank).roots t ≡ 0 }
     requires ready { IsReady (B.store bank) reading }
-    requires open { IsWritable out.old }
-    ensures ok { OnOk (unbounded result.written) (Writes W.contents out.old out.new
-        (run_due (B.store bank) (shown_of settings) settings.options.steps reading).text) }
-    ensures err { IfErr (unbounded result.written)
+    ensures limits { IfOk result.written (λ limit_lines. limit_lines
+        ≡ job_limits (B.store bank) run.settings.form run.settings.options.steps reading) }
+    ensures ok { OnOk result.written (Writes W.contents out.old out.new
+        (run_due (B.store bank) (shown_of run.settings) run.settings.options.steps reading).text) }
+    ensures err { IfErr result.written
         (λ fault. Stops fault (run_due (B.store bank)
-        (shown_of settings) settings.options.steps reading).text
+        (shown_of run.settings) run.settings.options.steps reading).text
         (contents_of W.contents out.old) (contents_of W.contents out.new)) }
-    ensures room { IfErr (unbounded result.written)
+    ensures room { IfErr result.written
         (RoomExhausts (B.store result.bank) result.needed.items) }
     ensures cap { (B.store result.bank).cap ≡ (B.store bank).cap }
     ensures unused { IsRefused reading → result.bank ≡ bank }
-    ensures cells { IsRefused reading → IfErr result.written HasRoomWithin }
-    ensures bounded { IfErr result.written (IsBounded settings.depth) }
-    ensures same_output { IsSameOutput out.old out.new }
-    ensures cause { TellsWrite out.new (unbounded result.written) }
-    ensures no_reader { IfErr (unbounded result.written) (λ fault. fault ≢ RunFault.Read) }
+    ensures cells { IsRefused reading → IfErr result.written HasRoom }
+    ensures bounded { IfErr result.written (IsBounded run.settings.depth) }
+    ensures reports { ReportsOutput out.old out.new result.written }
+    ensures told { OnOk result.written (S.told observer.new.reporter ≡ S.told observer.old.reporter
+        ++ job_report S.says (B.store bank) run.settings.options.steps reading) }
 {
     match reading {
         Reading::Refused(refusal) => Left {
             written: refuse(refusal, out),
             bank,
-            needed: Vec::new(alloc),
+            needed: Vec::new(run.alloc),
         },
-        Reading::Good(Job { checked, list }) => {
-            write_evaluated(alloc, checked, bank, list, out, settings, observer)
-        }
+        Reading::Good(job) => write_evaluated(run, job, bank, out, observer),
     }
 }
 
-/// Writes the line of a refusal.
-fn refuse<W: Write>(refusal: Refusal, out: &mut Output<'_, W>) -> Result<(), RunDepthFault>
-    requires { IsWritable out.old }
-    ensures ok { OnOk (unbounded result)
+/// Writes the error line of a rejected text. Returns 0, the number of limit lines.
+pub fn refuse<W: Write>(refusal: Refusal, out: &mut Output<'_, W>) -> Result<u64, RunFault>
+    ensures limits { IfOk result (λ limit_lines. limit_lines ≡ 0) }
+    ensures ok { OnOk result
         (Writes W.contents out.old out.new (refusal_due refusal).text) }
-    ensures err { IfErr (unbounded result) (λ fault. Stops fault (refusal_due refusal).text
+    ensures err { IfErr result (λ fault. Stops fault (refusal_due refusal).text
         (contents_of W.contents out.old) (contents_of W.contents out.new)) }
-    ensures write { IfErr result (λ fault. fault ≡ RunDepthFault.Run RunFault.Write) }
-    ensures same { IsSameOutput out.old out.new }
-    ensures cause { TellsWrite out.new (unbounded result) }
+    ensures write { IfErr result (λ fault. fault ≡ RunFault.Write) }
+    ensures reports { ReportsOutput out.old out.new result }
 {
     match write_refusal_to(refusal, out) {
-        Ok(()) => Ok(()),
-        Err(RefusedWrite) => Err(RunDepthFault::Run(RunFault::Write)),
+        Ok(()) => Ok(0),
+        Err(RefusedWrite) => Err(RunFault::Write),
     }
 }

@@ -1,49 +1,61 @@
-//! The evaluation of a term, and its line.
+//! Evaluates a term and writes its line.
 
-ghost use Rattle.std.specs.Prelude.{◌≡◌, ◌++◌, [], ℕ, IfErr, IfOk, OnOk, Some, codes};
-ghost use Rattle.std.specs.Io.KnownBytes.{Appends};
+ghost use Rattle.std.specs.Prelude.{◌≡◌, ◌++◌, [], IfErr, IfOk, OnOk, Some, codes};
 ghost use Rattle.rx_term.specs.Steps.{Keeps};
 ghost use Rattle.rx_term.specs.Store.{tree_at};
 ghost use Rattle.rx_term.specs.Tree.{Tree};
 ghost use Rattle.rx_term.specs.Walks.{AllHeld};
-ghost use Rattle.rx_text.specs.Output.{IsSameOutput, IsWritable, Writes, WritesFront};
-ghost use Rattle.rx_text.specs.Written.{AppendsFront};
-ghost use Rattle.rec_engine.specs.Depth.{RoomOnlyWithin};
+ghost use Rattle.rx_text.specs.Output.{Writes, WritesFront};
 ghost use Rattle.rec_engine.specs.Engine.{IsGiven, IsKept, IsOutcome, SameEngine};
-ghost use Rattle.rec_run.specs.Depth.{DeepOnlyFor, LineDeepOnly, of_engine, unbounded_line};
-ghost use Rattle.rec_run.specs.EvaluatedLines.{LineLacks, StaysFor, TellsLine, due_before};
+ghost use Rattle.rec_engine.specs.Limits.{KeepsLimit, RoomOrDeepOnly};
+ghost use Rattle.rec_run.specs.Depth.{RunDeepOnly};
+ghost use Rattle.rec_run.specs.EvaluatedLines.{
+  HoldsValue,
+  IsThereFor,
+  ReportsOutput,
+  RunLacks,
+  StaysFor,
+  due_before,
+  is_limit_line,
+  outcome_line,
+};
 ghost use Rattle.rec_run.specs.GivenTerms.{given_text, item_at};
-ghost use Rattle.rec_run.specs.Output.{bare, shown_by, shown_of};
+ghost use Rattle.rec_run.specs.Output.{given_task, is_limited, shown_of};
+ghost use Rattle.rec_run.specs.Run.{HasRoom};
+ghost use Rattle.rec_run.specs.Reports.{
+  IsReadyFor,
+  StaysReady,
+  TellsMore,
+  outcome_report,
+  value_report,
+};
 
-use crate::depth::{LineDepthFault, line, unbounded_line};
-use crate::options::{LimitLines, RunOptions, RunSettings};
-use crate::spec::lines::LineFault;
-use crate::spec::outcome::write_outcome_line;
-use rec_engine::{DepthFault, Engine, EngineFault, Outcome, Unwatched, Watch};
+use crate::observer::{Observer, Profiler};
+use crate::options::Run;
+use crate::reporter::{Reporter, report_outcome};
+use crate::spec::lines::engine_fault;
+use crate::spec::outcome::{Evaluated, write_outcome_line};
+use rec_engine::{Engine, EngineFault, Limits, Outcome, Unwatched, Watch};
+use rx_run::RunFault;
 use rx_term::{Term, TermBank};
 use rx_text::Output;
-use std::alloc::Global;
+use std::alloc::{AllocError, Global};
 use std::io::Write;
 
-/// What an engine answers, of a call that says how many calls may wait.
-fn engine_answer(answer: Result<Outcome, EngineFault>) -> Result<Outcome, DepthFault>
-    ensures { result ≡ of_engine answer }
-{
-    match answer {
-        Ok(outcome) => Ok(outcome),
-        Err(EngineFault::Memory) => Err(DepthFault::Memory),
-        Err(EngineFault::Room) => Err(DepthFault::Room),
-    }
-}
-
-/// What a term comes to within `n` steps, by `normalise_within` where it is said how many calls may
-/// wait, and by `normalise` otherwise.
+/// Evaluates `t` with a limit of `n` steps and, if `depth` is given, a call-depth limit.
+///
+/// Returns the normal form, or `Limit` if `n` is too low.
+///
+/// # Errors
+///
+/// `Memory` if an allocation failed, `Room` if the store is full of live terms, `Deep` if `depth`
+/// frames are in use and one more is needed.
 pub fn evaluate_within<B: TermBank>(
     engine: &mut Engine<B>,
     t: Term,
     n: u64,
     depth: Option<u32>,
-) -> Result<Outcome, DepthFault>
+) -> Result<Outcome, EngineFault>
     requires { IsGiven engine.old.spec (B.store engine.old.bank) t }
     ensures same { SameEngine engine.old engine.new }
     ensures keeps { Keeps (B.store engine.old.bank) (B.store engine.new.bank) [] }
@@ -52,162 +64,87 @@ pub fn evaluate_within<B: TermBank>(
         → IsOutcome engine.new.spec (B.store engine.new.bank) n u o) }
     ensures kept { IfOk result (IsKept engine.new.work) }
     ensures held { AllHeld (B.store engine.new.bank) engine.new.work }
-    ensures room { RoomOnlyWithin (B.store engine.new.bank) engine.new.work engine.new.memo
-        result }
-    ensures deep { DeepOnlyFor engine.new.waiting depth result }
+    ensures fault { RoomOrDeepOnly (B.store engine.new.bank) engine.new.work engine.new.memo
+        depth engine.new.waiting result }
+    ensures bound { KeepsLimit depth engine.new.bound engine.new.waiting }
 {
-    match depth {
-        Some(depth) => engine.normalise_within(t, n, depth),
-        None => engine_answer(engine.normalise(t, n)),
-    }
+    engine.normalise_with(t, Limits { steps: n, depth }, &mut Unwatched)
 }
 
-/// The same, and somebody is told while it goes on.
-pub fn evaluate_observed<B: TermBank, V: Watch>(
-    engine: &mut Engine<B>,
-    t: Term,
-    n: u64,
-    depth: Option<u32>,
-    watch: &mut V,
-) -> Result<Outcome, DepthFault>
-    requires { IsGiven engine.old.spec (B.store engine.old.bank) t }
-    ensures same { SameEngine engine.old engine.new }
-    ensures keeps { Keeps (B.store engine.old.bank) (B.store engine.new.bank) [] }
-    ensures outcome { IfOk result (λ o. (u : Tree)
-        → tree_at (B.store engine.old.bank) t ≡ Some u
-        → IsOutcome engine.new.spec (B.store engine.new.bank) n u o) }
-    ensures kept { IfOk result (IsKept engine.new.work) }
-    ensures held { AllHeld (B.store engine.new.bank) engine.new.work }
-    ensures room { RoomOnlyWithin (B.store engine.new.bank) engine.new.work engine.new.memo
-        result }
-    ensures deep { DeepOnlyFor engine.new.waiting depth result }
-{
-    match depth {
-        Some(depth) => engine.normalise_within_watched(t, n, depth, watch),
-        None => engine_answer(engine.normalise_watched(t, n, watch)),
-    }
-}
-
-/// Evaluates a term, and writes its line.
-pub fn write_evaluation<B: TermBank, W: Write>(
-    alloc: Global,
-    engine: &mut Engine<B>,
-    t: Term,
-    out: &mut W,
-    options: RunOptions,
-) -> Result<(), LineFault>
-    requires { IsGiven engine.old.spec (B.store engine.old.bank) t }
-    ensures same { SameEngine engine.old engine.new }
-    ensures keeps { Keeps (B.store engine.old.bank) (B.store engine.new.bank) [] }
-    ensures ok { OnOk result (Appends (W.contents out.old) (W.contents out.new)
-        (given_text engine.old.spec (bare options.count) options.steps
-        (item_at (B.store engine.old.bank) t) ++ codes "\n")) }
-    ensures err { IfErr result (λ fault. AppendsFront
-        (due_before fault (given_text engine.old.spec (bare options.count) options.steps
-        (item_at (B.store engine.old.bank) t)))
-        (W.contents out.old) (W.contents out.new)) }
-    ensures room { IfErr result
-        (LineLacks (B.store engine.new.bank) engine.new.work engine.new.memo) }
-{
-    let mut output = Output::new(out);
-    write_evaluation_to(alloc, engine, t, &mut output, options, LimitLines::Bare)
-}
-
-/// The same to an output. It is asked no more once it refused.
-pub fn write_evaluation_to<B: TermBank, W: Write>(
-    alloc: Global,
+/// Evaluates a term, reports its value and writes its line. Returns whether that is a limit line.
+pub(crate) fn write_evaluation<B: TermBank, W: Write, V: Watch, P: Profiler, S: Reporter>(
+    run: Run,
     engine: &mut Engine<B>,
     t: Term,
     out: &mut Output<'_, W>,
-    options: RunOptions,
-    limits: LimitLines,
-) -> Result<(), LineFault>
+    observer: &mut Observer<V, P, S>,
+) -> Result<bool, RunFault>
     requires given { IsGiven engine.old.spec (B.store engine.old.bank) t }
-    requires stays { StaysFor limits (B.store engine.old.bank) t }
-    requires open { IsWritable out.old }
+    requires stays { StaysFor run.settings.limits (B.store engine.old.bank) t }
+    requires ready { IsReadyFor S.is_ready engine.old.spec observer.old.reporter }
+    ensures limit { IfOk result (λ limited. limited ≡ is_limited engine.old.spec
+        run.settings.form run.settings.options.steps (given_task (item_at (B.store engine.old.bank) t))) }
     ensures same { SameEngine engine.old engine.new }
     ensures keeps { Keeps (B.store engine.old.bank) (B.store engine.new.bank) [] }
     ensures ok { OnOk result (Writes W.contents out.old out.new
-        (given_text engine.old.spec (shown_by options.count limits) options.steps
+        (given_text engine.old.spec (shown_of run.settings) run.settings.options.steps
         (item_at (B.store engine.old.bank) t) ++ codes "\n")) }
-    ensures err { IfErr result (λ fault. WritesFront W.contents out.old out.new (due_before fault
-        (given_text engine.old.spec (shown_by options.count limits) options.steps
+    ensures err { IfErr result (λ fault.
+        WritesFront W.contents out.old out.new (due_before fault
+        (given_text engine.old.spec (shown_of run.settings) run.settings.options.steps
         (item_at (B.store engine.old.bank) t)))) }
     ensures room { IfErr result
-        (LineLacks (B.store engine.new.bank) engine.new.work engine.new.memo) }
-    ensures same_output { IsSameOutput out.old out.new }
-    ensures cause { TellsLine out.new result }
+        (RunLacks (B.store engine.new.bank) engine.new.work engine.new.memo) }
+    ensures deep { RunDeepOnly engine.new.waiting run.settings.depth result }
+    ensures bound { KeepsLimit run.settings.depth engine.new.bound engine.new.waiting }
+    ensures reports { ReportsOutput out.old out.new result }
+    ensures ready { StaysReady S.is_ready engine.old.spec observer.old.reporter observer.new.reporter }
+    ensures told { OnOk result (TellsMore S.is_ready S.told engine.old.spec
+        observer.old.reporter observer.new.reporter (λ source. value_report S.says source
+        engine.old.spec run.settings.options.steps
+        (given_task (item_at (B.store engine.old.bank) t)))) }
 {
-    let settings = RunSettings {
-        options,
-        limits,
-        depth: None,
+    let limits = Limits {
+        steps: run.settings.options.steps,
+        depth: run.settings.depth,
     };
-    unbounded_line(write_evaluation_within(alloc, engine, t, out, settings))
-}
-
-/// The same where it may be said how many calls may wait.
-pub fn write_evaluation_within<B: TermBank, W: Write>(
-    alloc: Global,
-    engine: &mut Engine<B>,
-    t: Term,
-    out: &mut Output<'_, W>,
-    settings: RunSettings,
-) -> Result<(), LineDepthFault>
-    requires given { IsGiven engine.old.spec (B.store engine.old.bank) t }
-    requires stays { StaysFor settings.limits (B.store engine.old.bank) t }
-    requires open { IsWritable out.old }
-    ensures same { SameEngine engine.old engine.new }
-    ensures keeps { Keeps (B.store engine.old.bank) (B.store engine.new.bank) [] }
-    ensures ok { OnOk result (Writes W.contents out.old out.new
-        (given_text engine.old.spec (shown_of settings) settings.options.steps
-        (item_at (B.store engine.old.bank) t) ++ codes "\n")) }
-    ensures err { IfErr (unbounded_line result) (λ fault.
-        WritesFront W.contents out.old out.new (due_before fault
-        (given_text engine.old.spec (shown_of settings) settings.options.steps
-        (item_at (B.store engine.old.bank) t)))) }
-    ensures room { IfErr (unbounded_line result)
-        (LineLacks (B.store engine.new.bank) engine.new.work engine.new.memo) }
-    ensures deep { LineDeepOnly engine.new.waiting settings.depth result }
-    ensures same_output { IsSameOutput out.old out.new }
-    ensures cause { TellsLine out.new (unbounded_line result) }
-{
-    write_evaluation_observed(alloc, engine, t, out, settings, &mut Unwatched)
-}
-
-/// The same, and somebody is told while it goes on.
-pub(crate) fn write_evaluation_observed<B: TermBank, W: Write, V: Watch>(
-    alloc: Global,
-    engine: &mut Engine<B>,
-    t: Term,
-    out: &mut Output<'_, W>,
-    settings: RunSettings,
-    watch: &mut V,
-) -> Result<(), LineDepthFault>
-    requires given { IsGiven engine.old.spec (B.store engine.old.bank) t }
-    requires stays { StaysFor settings.limits (B.store engine.old.bank) t }
-    requires open { IsWritable out.old }
-    ensures same { SameEngine engine.old engine.new }
-    ensures keeps { Keeps (B.store engine.old.bank) (B.store engine.new.bank) [] }
-    ensures ok { OnOk result (Writes W.contents out.old out.new
-        (given_text engine.old.spec (shown_of settings) settings.options.steps
-        (item_at (B.store engine.old.bank) t) ++ codes "\n")) }
-    ensures err { IfErr (unbounded_line result) (λ fault.
-        WritesFront W.contents out.old out.new (due_before fault
-        (given_text engine.old.spec (shown_of settings) settings.options.steps
-        (item_at (B.store engine.old.bank) t)))) }
-    ensures room { IfErr (unbounded_line result)
-        (LineLacks (B.store engine.new.bank) engine.new.work engine.new.memo) }
-    ensures deep { LineDeepOnly engine.new.waiting settings.depth result }
-    ensures same_output { IsSameOutput out.old out.new }
-    ensures cause { TellsLine out.new (unbounded_line result) }
-{
-    match evaluate_observed(engine, t, settings.options.steps, settings.depth, watch) {
+    match engine.normalise_with(t, limits, &mut observer.watch) {
         Ok(outcome) => {
-            let limits = settings.limits;
-            let bank = engine.bank();
-            line(write_outcome_line(alloc, bank, t, outcome, out, settings.options, limits))
+            let reporter = &mut observer.reporter;
+            tell_outcome(run, engine, Evaluated { term: t, outcome }, out, reporter)
         }
-        Err(fault) => Err(LineDepthFault::from(fault)),
+        Err(fault) => Err(engine_fault(fault, 0)),
+    }
+}
+
+/// Reports the result of an evaluation and writes its line. Returns whether that is a limit line.
+fn tell_outcome<B: TermBank, W: Write, S: Reporter>(
+    run: Run,
+    engine: &Engine<B>,
+    evaluated: Evaluated,
+    out: &mut Output<'_, W>,
+    reporter: &mut S,
+) -> Result<bool, RunFault>
+    requires held { HoldsValue (B.store engine.now.bank) evaluated.outcome }
+    requires there { IsThereFor run.settings.limits (B.store engine.now.bank) evaluated.term }
+    requires ready { IsReadyFor S.is_ready engine.now.spec reporter.old }
+    ensures limit { IfOk result (λ limited. limited ≡ is_limit_line run.settings.form
+        (B.store engine.now.bank) evaluated.outcome) }
+    ensures ok { OnOk result (Writes W.contents out.old out.new
+        (outcome_line run.settings (B.store engine.now.bank) evaluated.term evaluated.outcome
+        ++ codes "\n")) }
+    ensures err { IfErr result (λ fault. WritesFront W.contents out.old out.new
+        (due_before fault (outcome_line run.settings (B.store engine.now.bank) evaluated.term
+        evaluated.outcome))) }
+    ensures room { IfErr result HasRoom }
+    ensures reports { ReportsOutput out.old out.new result }
+    ensures ready { StaysReady S.is_ready engine.now.spec reporter.old reporter.new }
+    ensures told { OnOk result (TellsMore S.is_ready S.told engine.now.spec
+        reporter.old reporter.new (λ source. outcome_report S.says source engine.now.spec
+        (B.store engine.now.bank) evaluated.outcome)) }
+{
+    match report_outcome(run.alloc, engine, evaluated.outcome, reporter) {
+        Ok(()) => write_outcome_line(run, engine.bank(), evaluated, out),
+        Err(AllocError) => Err(RunFault::Memory { lines: 0 }),
     }
 }

@@ -1,10 +1,8 @@
-//! What is shown of what a term comes to.
+//! Writes the result of an evaluation as a line.
 
 ghost use Rattle.std.specs.Prelude.{
   ◌≡◌,
-  ◌≢◌,
   ◌++◌,
-  Err,
   IfErr,
   IfOk,
   IfSome,
@@ -17,139 +15,229 @@ ghost use Rattle.std.specs.Io.KnownBytes.{Appends};
 ghost use Rattle.rx_term.specs.Store.{tree_at};
 ghost use Rattle.rx_term.specs.Tree.{Trees, annotations, list_of};
 ghost use Rattle.rx_text.specs.Canon.{canon, canon_all};
-ghost use Rattle.rx_text.specs.Output.{IsSameOutput, IsWritable, TellsRefusal, Writes};
+ghost use Rattle.rx_text.specs.Output.{ReportsRefusal, Writes};
 ghost use Rattle.rx_text.specs.Output.{WritesFront};
 ghost use Rattle.rx_text.specs.Written.{AppendsFront};
 ghost use Rattle.rec_run.specs.EvaluatedLines.{
   HoldsValue,
   IsThereFor,
-  TellsLine,
+  ReportsOutput,
   due_before,
+  is_limit_line,
+  is_over,
+  outcome_line,
   outcome_text,
   said,
+  unsaid,
+  value_of,
 };
 ghost use Rattle.rec_run.specs.GivenTerms.{item_at};
-ghost use Rattle.rec_run.specs.Output.{notes_text};
+ghost use Rattle.rec_run.specs.Output.{is_longer, notes_text};
+ghost use Rattle.rec_run.specs.Run.{HasRoom};
+ghost use Rattle.rec_run.specs.declared.options.ValueForm.TheVariants.{Within};
+ghost use Rattle.rx_run.specs.Due.{steps_text};
 
-use crate::options::{LimitLines, RunOptions};
-use crate::spec::lines::LineFault;
+use crate::options::{LimitLines, Run, ValueForm};
 use rec_engine::Outcome;
-use rx_run::{put_numbered_to, write_steps_to};
+use rx_run::{RunFault, put_numbered_to, write_steps_to};
 use rx_term::{Term, TermBank};
-use rx_text::{Output, RefusedWrite, write_to};
+use rx_text::{Output, RefusedWrite, write_to, write_within};
 use std::alloc::{AllocError, Global};
 use std::io::Write;
 
-/// Writes what is shown of what a term comes to.
-pub fn write_outcome<B: TermBank, W: Write>(
-    alloc: Global,
-    bank: &B,
-    outcome: Outcome,
-    out: &mut W,
-    options: RunOptions,
-) -> Result<(), LineFault>
-    requires { HoldsValue (B.store bank.now) outcome }
-    ensures ok { OnOk result (Appends (W.contents out.old) (W.contents out.new)
-        (outcome_text (B.store bank.now) options.count options.steps outcome)) }
-    ensures err { OnErr result
-        (AppendsFront (outcome_text (B.store bank.now) options.count options.steps outcome)
-        (W.contents out.old) (W.contents out.new)) }
-    ensures no_room { Err LineFault.Room ≢ result }
-{
-    let mut output = Output::new(out);
-    write_outcome_to(alloc, bank, outcome, &mut output, options)
+/// A term, and the result of its evaluation.
+#[derive(Clone, Copy, Drop)]
+pub(crate) struct Evaluated {
+    /// The term.
+    pub(crate) term: Term,
+    /// The result.
+    pub(crate) outcome: Outcome,
 }
 
-/// The same to an output. It is asked no more once it refused.
-pub fn write_outcome_to<B: TermBank, W: Write>(
-    alloc: Global,
+/// A value, and the number of steps that it took.
+#[derive(Clone, Copy, Drop)]
+struct Valued {
+    /// The value.
+    term: Term,
+    /// The number of steps.
+    steps: u64,
+}
+
+/// Writes the result of an evaluation, without the annotations of a limit line and without the line
+/// end. Returns whether the line is a limit line.
+fn write_outcome<B: TermBank, W: Write>(
+    run: Run,
     bank: &B,
     outcome: Outcome,
     out: &mut Output<'_, W>,
-    options: RunOptions,
-) -> Result<(), LineFault>
+) -> Result<bool, RunFault>
     requires held { HoldsValue (B.store bank.now) outcome }
-    requires open { IsWritable out.old }
+    ensures limit { IfOk result (λ limited. limited
+        ≡ is_limit_line run.settings.form (B.store bank.now) outcome) }
     ensures ok { OnOk result (Writes W.contents out.old out.new
-        (outcome_text (B.store bank.now) options.count options.steps outcome)) }
-    ensures err { OnErr result
-        (WritesFront W.contents out.old out.new (outcome_text
-        (B.store bank.now) options.count options.steps outcome)) }
-    ensures no_room { Err LineFault.Room ≢ result }
-    ensures same_output { IsSameOutput out.old out.new }
-    ensures cause { TellsLine out.new result }
+        (outcome_text run.settings (B.store bank.now) outcome)) }
+    ensures err { OnErr result (WritesFront W.contents out.old out.new
+        (outcome_text run.settings (B.store bank.now) outcome)) }
+    ensures room { IfErr result HasRoom }
+    ensures reports { ReportsOutput out.old out.new result }
 {
     match outcome {
-        Outcome::Value { term, steps } => {
-            write_to(alloc, bank, term, out)?;
-            write_steps_to(options.count, steps, out)?;
+        Outcome::Value { term, steps } => write_value(run, bank, Valued { term, steps }, out),
+        Outcome::Limit => {
+            put_numbered_to(out, b"!limit ", run.settings.options.steps)?;
+            Ok(true)
         }
-        Outcome::Limit => put_numbered_to(out, b"!limit ", options.steps)?,
     }
-    Ok(())
 }
 
-/// Writes the line of what a term comes to.
-pub(crate) fn write_outcome_line<B: TermBank, W: Write>(
-    alloc: Global,
+/// Writes a value in the form of values, without the annotations of a limit line. Returns whether
+/// its line is a limit line.
+fn write_value<B: TermBank, W: Write>(
+    run: Run,
     bank: &B,
-    t: Term,
-    outcome: Outcome,
+    valued: Valued,
     out: &mut Output<'_, W>,
-    options: RunOptions,
-    limits: LimitLines,
-) -> Result<(), LineFault>
-    requires held { HoldsValue (B.store bank.now) outcome }
-    requires there { IsThereFor limits (B.store bank.now) t }
-    requires open { IsWritable out.old }
+) -> Result<bool, RunFault>
+    requires held { IsSome (tree_at (B.store bank.now) valued.term) }
+    ensures limit { IfOk result (λ limited. limited
+        ≡ is_longer (value_of run.settings.form (B.store bank.now) valued.term)) }
     ensures ok { OnOk result (Writes W.contents out.old out.new
-        ((outcome_text (B.store bank.now) options.count options.steps outcome
-        ++ said outcome limits (annotations (item_at (B.store bank.now) t))) ++ codes "\n")) }
-    ensures err { IfErr result (λ fault. WritesFront W.contents out.old out.new (due_before fault
-        (outcome_text (B.store bank.now) options.count options.steps outcome
-        ++ said outcome limits (annotations (item_at (B.store bank.now) t))))) }
-    ensures no_room { Err LineFault.Room ≢ result }
-    ensures same_output { IsSameOutput out.old out.new }
-    ensures cause { TellsLine out.new result }
-{
-    write_outcome_to(alloc, bank, outcome, out, options)?;
-    write_said(alloc, bank, t, outcome, out, limits)?;
-    out.put(b"\n")?;
-    Ok(())
-}
-
-/// Writes what a limit line says of its term besides.
-fn write_said<B: TermBank, W: Write>(
-    alloc: Global,
-    bank: &B,
-    t: Term,
-    outcome: Outcome,
-    out: &mut Output<'_, W>,
-    limits: LimitLines,
-) -> Result<(), LineFault>
-    requires there { IsThereFor limits (B.store bank.now) t }
-    requires open { IsWritable out.old }
-    ensures ok { OnOk result (Writes W.contents out.old out.new
-        (said outcome limits (annotations (item_at (B.store bank.now) t)))) }
+        (unsaid (steps_text run.settings.options.count valued.steps)
+        (value_of run.settings.form (B.store bank.now) valued.term))) }
     ensures err { OnErr result (WritesFront W.contents out.old out.new
-        (said outcome limits (annotations (item_at (B.store bank.now) t)))) }
-    ensures no_room { Err LineFault.Room ≢ result }
-    ensures same_output { IsSameOutput out.old out.new }
-    ensures cause { TellsLine out.new result }
+        (unsaid (steps_text run.settings.options.count valued.steps)
+        (value_of run.settings.form (B.store bank.now) valued.term))) }
+    ensures room { IfErr result HasRoom }
+    ensures reports { ReportsOutput out.old out.new result }
 {
-    match (limits, outcome) {
-        (LimitLines::Annotated, Outcome::Limit) => write_notes_to(alloc, bank, t, out),
+    match run.settings.form {
+        ValueForm::Plain => {
+            write_plain(run, bank, valued, out)?;
+            Ok(false)
+        }
+        ValueForm::Within(most) => write_bounded(run, bank, valued, most, out),
+    }
+}
+
+/// Writes a value of any length, and its steps.
+fn write_plain<B: TermBank, W: Write>(
+    run: Run,
+    bank: &B,
+    valued: Valued,
+    out: &mut Output<'_, W>,
+) -> Result<(), RunFault>
+    requires held { IsSome (tree_at (B.store bank.now) valued.term) }
+    ensures ok { OnOk result (Writes W.contents out.old out.new
+        (canon (item_at (B.store bank.now) valued.term)
+        ++ steps_text run.settings.options.count valued.steps)) }
+    ensures err { OnErr result (WritesFront W.contents out.old out.new
+        (canon (item_at (B.store bank.now) valued.term)
+        ++ steps_text run.settings.options.count valued.steps)) }
+    ensures room { IfErr result HasRoom }
+    ensures reports { ReportsOutput out.old out.new result }
+{
+    write_to(run.alloc, bank, valued.term, out)?;
+    write_steps_to(run.settings.options.count, valued.steps, out)?;
+    Ok(())
+}
+
+/// Writes a value of at most `most` bytes and its steps, or `!bytes`. Returns whether the value is
+/// longer.
+fn write_bounded<B: TermBank, W: Write>(
+    run: Run,
+    bank: &B,
+    valued: Valued,
+    most: u64,
+    out: &mut Output<'_, W>,
+) -> Result<bool, RunFault>
+    requires held { IsSome (tree_at (B.store bank.now) valued.term) }
+    ensures limit { IfOk result (λ limited. limited
+        ≡ is_longer (value_of (Within most) (B.store bank.now) valued.term)) }
+    ensures ok { OnOk result (Writes W.contents out.old out.new
+        (unsaid (steps_text run.settings.options.count valued.steps)
+        (value_of (Within most) (B.store bank.now) valued.term))) }
+    ensures err { OnErr result (WritesFront W.contents out.old out.new
+        (unsaid (steps_text run.settings.options.count valued.steps)
+        (value_of (Within most) (B.store bank.now) valued.term))) }
+    ensures room { IfErr result HasRoom }
+    ensures reports { ReportsOutput out.old out.new result }
+{
+    let text = write_within(run.alloc, bank, valued.term, most as usize)?;
+    match text {
+        Some(text) => {
+            out.put(&text)?;
+            write_steps_to(run.settings.options.count, valued.steps, out)?;
+            Ok(false)
+        }
+        None => {
+            put_numbered_to(out, b"!bytes ", most)?;
+            Ok(true)
+        }
+    }
+}
+
+/// Returns whether the step limit was too low.
+pub fn is_limit(outcome: Outcome) -> bool
+    ensures { result ≡ is_over outcome }
+{
+    matches!(outcome, Outcome::Limit)
+}
+
+/// Writes the line of the result of an evaluation. Returns whether it is a limit line.
+pub(crate) fn write_outcome_line<B: TermBank, W: Write>(
+    run: Run,
+    bank: &B,
+    evaluated: Evaluated,
+    out: &mut Output<'_, W>,
+) -> Result<bool, RunFault>
+    requires held { HoldsValue (B.store bank.now) evaluated.outcome }
+    requires there { IsThereFor run.settings.limits (B.store bank.now) evaluated.term }
+    ensures limit { IfOk result (λ limited. limited
+        ≡ is_limit_line run.settings.form (B.store bank.now) evaluated.outcome) }
+    ensures ok { OnOk result (Writes W.contents out.old out.new
+        (outcome_line run.settings (B.store bank.now) evaluated.term evaluated.outcome
+        ++ codes "\n")) }
+    ensures err { IfErr result (λ fault. WritesFront W.contents out.old out.new
+        (due_before fault (outcome_line run.settings (B.store bank.now) evaluated.term
+        evaluated.outcome))) }
+    ensures room { IfErr result HasRoom }
+    ensures reports { ReportsOutput out.old out.new result }
+{
+    let limited = write_outcome(run, bank, evaluated.outcome, out)?;
+    write_said(run, bank, evaluated.term, limited, out)?;
+    out.put(b"\n")?;
+    Ok(limited)
+}
+
+/// Writes the annotations of the term of a limit line, if limit lines have them.
+fn write_said<B: TermBank, W: Write>(
+    run: Run,
+    bank: &B,
+    term: Term,
+    limited: bool,
+    out: &mut Output<'_, W>,
+) -> Result<(), RunFault>
+    requires there { IsThereFor run.settings.limits (B.store bank.now) term }
+    ensures ok { OnOk result (Writes W.contents out.old out.new
+        (said limited run.settings.limits (annotations (item_at (B.store bank.now) term)))) }
+    ensures err { OnErr result (WritesFront W.contents out.old out.new
+        (said limited run.settings.limits (annotations (item_at (B.store bank.now) term)))) }
+    ensures room { IfErr result HasRoom }
+    ensures reports { ReportsOutput out.old out.new result }
+{
+    match (run.settings.limits, limited) {
+        (LimitLines::Annotated, true) => write_notes_to(run.alloc, bank, term, out),
         _ => Ok(()),
     }
 }
 
-/// Writes the annotations of a term between braces, where there are any.
+/// Writes the annotations of a term in braces, or nothing if it has none.
 pub fn write_notes<B: TermBank, W: Write>(
     alloc: Global,
     bank: &B,
     t: Term,
     out: &mut W,
-) -> Result<(), LineFault>
+) -> Result<(), RunFault>
     requires { IsSome (tree_at (B.store bank.now) t) }
     ensures ok { OnOk result (Appends (W.contents out.old) (W.contents out.new)
         (notes_text (annotations (item_at (B.store bank.now) t)))) }
@@ -160,22 +248,21 @@ pub fn write_notes<B: TermBank, W: Write>(
     write_notes_to(alloc, bank, t, &mut output)
 }
 
-/// The same to an output. It is asked no more once it refused.
+/// Writes the annotations of a term in braces to an output, or nothing if it has none. An output
+/// that has failed is not used again.
 pub fn write_notes_to<B: TermBank, W: Write>(
     alloc: Global,
     bank: &B,
     t: Term,
     out: &mut Output<'_, W>,
-) -> Result<(), LineFault>
+) -> Result<(), RunFault>
     requires held { IsSome (tree_at (B.store bank.now) t) }
-    requires open { IsWritable out.old }
     ensures ok { OnOk result (Writes W.contents out.old out.new
         (notes_text (annotations (item_at (B.store bank.now) t)))) }
     ensures err { OnErr result (WritesFront W.contents out.old out.new
         (notes_text (annotations (item_at (B.store bank.now) t)))) }
-    ensures no_room { Err LineFault.Room ≢ result }
-    ensures same_output { IsSameOutput out.old out.new }
-    ensures cause { TellsLine out.new result }
+    ensures room { IfErr result HasRoom }
+    ensures reports { ReportsOutput out.old out.new result }
 {
     match bank.anns(t) {
         None => Ok(()),
@@ -187,7 +274,7 @@ pub fn write_notes_to<B: TermBank, W: Write>(
     }
 }
 
-/// The printed text of the items of a list without annotations, with commas between.
+/// Returns the printed items of a list without annotations, separated by commas.
 fn items_text<B: TermBank>(alloc: Global, bank: &B, list: Term) -> Result<Vec<u8>, AllocError>
     requires { (ts : Trees) × (tree_at (B.store bank.now) list ≡ Some (list_of ts)) }
     ensures { IfOk result (λ text. (ts : Trees)
@@ -197,7 +284,7 @@ fn items_text<B: TermBank>(alloc: Global, bank: &B, list: Term) -> Result<Vec<u8
     Vec::from_slice(alloc, &text[1..text.len() - 1])
 }
 
-/// The printed text of a term.
+/// Returns the printed text of a term.
 fn term_text<B: TermBank>(alloc: Global, bank: &B, t: Term) -> Result<Vec<u8>, AllocError>
     requires { IsSome (tree_at (B.store bank.now) t) }
     ensures { IfOk result (λ text.
@@ -210,20 +297,18 @@ fn term_text<B: TermBank>(alloc: Global, bank: &B, t: Term) -> Result<Vec<u8>, A
     }
 }
 
-/// Writes a text between two others.
+/// Writes `left`, `text` and `right`, one after another.
 fn put_between<W: Write>(
     left: &[u8],
     text: &[u8],
     right: &[u8],
     out: &mut Output<'_, W>,
 ) -> Result<(), RefusedWrite>
-    requires { IsWritable out.old }
     ensures ok { OnOk result
         (Writes W.contents out.old out.new (left.now ++ text.now ++ right.now)) }
     ensures err { OnErr result
         (WritesFront W.contents out.old out.new (left.now ++ text.now ++ right.now)) }
-    ensures same { IsSameOutput out.old out.new }
-    ensures cause { TellsRefusal out.new result }
+    ensures reports { ReportsRefusal out.old out.new result }
 {
     out.put(left)?;
     out.put(text)?;

@@ -1,51 +1,50 @@
-//! The texts of a run: a specification, and given terms.
+//! Reads the texts of a run: a specification, and input terms.
 
-ghost use Rattle.std.specs.Prelude.{◌≡◌, ◌≤◌, ℕ, List, IfOk, IfErr, IfSome, IsSome, None};
-ghost use Rattle.std.specs.Prelude.{OnOk, Some, length, option_map};
+ghost use Rattle.std.specs.Prelude.{◌≡◌, ◌≤◌, ℕ, List, IfOk, IfErr, IfSome, IsSome};
+ghost use Rattle.std.specs.Prelude.{OnOk, length, option_map};
 ghost use Rattle.rx_term.specs.Steps.{Grows};
 ghost use Rattle.rx_term.specs.Store.{Store, tree_at};
 ghost use Rattle.rx_text.specs.Grammar.{Spells};
-ghost use Rattle.rx_text.specs.Input.{IsReadable, IsSameInput, remaining_in};
+ghost use Rattle.rx_text.specs.Input.{IsSameInput, remaining_in};
 ghost use Rattle.rec_syntax.specs.Grammar.{SpecText};
 ghost use Rattle.rec_sorts.specs.SpecRules.{Fits, Verdict};
 ghost use Rattle.rec_run.specs.Reading.{IsGood, IsSpecRead, IsSpecReading, KeepsText};
 ghost use Rattle.rx_run.specs.Run.{IsReadOut, RanOut, StopsReading, StopsUnwritten};
-ghost use Rattle.rx_run.specs.Streams.{TellsRead, TellsReading};
-ghost use Rattle.rec_run.specs.Run.{TellsReads, both_texts};
+ghost use Rattle.rx_run.specs.Streams.{ReportsRead};
+ghost use Rattle.rec_run.specs.Run.{ReportsReadsBy, ReportsReadsOf, both_texts};
 ghost use Rattle.rec_run.specs.GivenTerms.{
   EndsRefused,
   HoldsList,
-  IsReadAs,
-  IsReadFor,
-  IsReadFrom,
+  IsJobAfter,
+  IsJobRead,
   IsReady,
   IsRefusal,
   IsTermsRead,
   OnGoodSpec,
   OnRefusedSpec,
-  job_alone_of,
   job_of,
   list_refused,
 };
 
+use crate::spec::input_terms::InputTerms;
 use rec_sorts::{Checked, SortFault, TermsFault, check, check_terms};
 use rec_syntax::{Syntax, SyntaxFault, read_owned};
-use rx_run::{ReadFault, Reading, Reason, RunFault, Source, parse, read_all_from};
+use rx_run::{Reading, Reason, RunFault, Source, parse, read_all_from};
 use rx_term::{Term, TermBank};
 use rx_text::Input;
 use std::alloc::{AllocError, Global};
 use std::io::Read;
 
-/// A good specification, and the list of given terms in a bank, where there is one.
+/// An accepted specification, and the list of input terms in a store, if given.
 #[derive(Drop)]
 pub struct Job {
     /// The specification.
     pub checked: Checked,
-    /// The list of given terms.
+    /// The list of input terms.
     pub list: Option<Term>,
 }
 
-/// The verdict on a text, which a good specification keeps.
+/// Parses and checks the text of a specification. An accepted specification keeps the text.
 pub(crate) fn judge(alloc: Global, text: Vec<u8>) -> Result<Reading<Checked>, AllocError>
     ensures verdict { IfOk result (IsSpecRead text.items) }
     ensures source { IfOk result (KeepsText text.items) }
@@ -60,7 +59,7 @@ pub(crate) fn judge(alloc: Global, text: Vec<u8>) -> Result<Reading<Checked>, Al
     }
 }
 
-/// The verdict on a text that spells a specification.
+/// Checks a parsed specification against the rules S1 to S11.
 fn judge_rules(alloc: Global, syntax: Syntax) -> Result<Reading<Checked>, AllocError>
     requires short { length syntax.source ≤ 16777216 }
     requires spelled { SpecText syntax.source syntax.spec }
@@ -76,100 +75,23 @@ fn judge_rules(alloc: Global, syntax: Syntax) -> Result<Reading<Checked>, AllocE
     }
 }
 
-/// Reads the text of a specification without given terms, and judges it.
-pub fn read_alone<R: Read>(alloc: Global, spec: &mut R) -> Result<Reading<Job>, RunFault>
-    ensures due { IfOk result
-        (λ reading. (w : Store) → IfSome (both_texts (R.remaining spec.old) (Some None))
-        (λ texts. IsReadFrom w texts reading)) }
-    ensures ready { IfOk result (λ reading. (w : Store) → IsReady w reading) }
-    ensures refused { OnRefusedSpec (R.remaining spec.old) (EndsRefused result) }
-    ensures out { OnOk result (IsReadOut (R.remaining spec.old) (R.remaining spec.new)) }
-    ensures fault { IfErr result StopsReading }
-{
-    let mut spec = Input::new(spec);
-    read_alone_from(alloc, &mut spec)
-}
-
-/// The same from an input. It is asked no more once it refused.
-pub fn read_alone_from<R: Read>(
+/// Reads a specification from an input and, if it is accepted and input terms are given, their
+/// text. Returns both, with the terms in `bank`, or the error of the rejected text. A reader that
+/// has failed is not used again.
+pub fn read_given_from<B: TermBank, R: Read, G: InputTerms>(
     alloc: Global,
     spec: &mut Input<'_, R>,
-) -> Result<Reading<Job>, RunFault>
-    requires { IsReadable spec.old }
-    ensures due { IfOk result
-        (λ reading. (w : Store) → IfSome (both_texts (remaining_in R.remaining spec.old)
-        (Some None))
-        (λ texts. IsReadFrom w texts reading)) }
-    ensures ready { IfOk result (λ reading. (w : Store) → IsReady w reading) }
-    ensures refused { OnRefusedSpec (remaining_in R.remaining spec.old) (EndsRefused result) }
-    ensures out { OnOk result (IsReadOut (remaining_in R.remaining spec.old)
-        (remaining_in R.remaining spec.new)) }
-    ensures fault { IfErr result StopsReading }
-    ensures same { IsSameInput spec.old spec.new }
-    ensures cause { TellsRead spec.new result }
-{
-    let first = read_spec_text_from(alloc, spec)?;
-    Ok(job_alone(first))
-}
-
-/// What the text of a specification comes to without given terms.
-fn job_alone(first: Reading<Checked>) -> Reading<Job>
-    ensures { result ≡ job_alone_of first }
-{
-    match first {
-        Reading::Refused(refusal) => Reading::Refused(refusal),
-        Reading::Good(checked) => Reading::Good(Job {
-            checked,
-            list: None,
-        }),
-    }
-}
-
-/// Reads the text of a specification and, where it is good, that of the given terms into a bank,
-/// and judges both.
-pub fn read_both<B: TermBank, R: Read, T: Read>(
-    alloc: Global,
-    spec: &mut R,
-    terms: &mut T,
+    terms: &mut G,
     bank: &mut B,
 ) -> Result<Reading<Job>, RunFault>
-    ensures due { IfOk result (λ reading. IfSome
-        (both_texts (R.remaining spec.old) (option_map (λ b. Some b) (T.remaining terms.old)))
-        (λ texts. IsReadFrom (B.store bank.new) texts reading)) }
-    ensures ready { IfOk result (IsReady (B.store bank.new)) }
-    ensures out { OnOk result (IsReadOut (R.remaining spec.old) (R.remaining spec.new)) }
-    ensures terms_out { OnOk result (OnGoodSpec (R.remaining spec.old)
-        (IsReadOut (T.remaining terms.old) (T.remaining terms.new))) }
-    ensures unread { OnRefusedSpec (R.remaining spec.old) (terms.new ≡ terms.old) }
-    ensures unused { OnRefusedSpec (R.remaining spec.old) (bank.new ≡ bank.old) }
-    ensures refused { OnRefusedSpec (R.remaining spec.old) (EndsRefused result) }
-    ensures roots { (B.store bank.new).roots ≡ (B.store bank.old).roots }
-    ensures cap { (B.store bank.new).cap ≡ (B.store bank.old).cap }
-    ensures fault { IfErr result (StopsUnwritten (B.store bank.old) (B.store bank.new)) }
-{
-    let mut spec = Input::new(spec);
-    let mut terms = Input::new(terms);
-    read_both_from(alloc, &mut spec, &mut terms, bank)
-}
-
-/// The same from two inputs. None is asked any more once it refused.
-pub fn read_both_from<B: TermBank, R: Read, T: Read>(
-    alloc: Global,
-    spec: &mut Input<'_, R>,
-    terms: &mut Input<'_, T>,
-    bank: &mut B,
-) -> Result<Reading<Job>, RunFault>
-    requires readable { IsReadable spec.old }
-    requires terms_readable { IsReadable terms.old }
-    ensures due { IfOk result (λ reading. IfSome
-        (both_texts (remaining_in R.remaining spec.old) (option_map (λ b. Some b)
-        (remaining_in T.remaining terms.old)))
-        (λ texts. IsReadFrom (B.store bank.new) texts reading)) }
+    ensures read { IfOk result (λ reading. IfSome
+        (both_texts (remaining_in R.remaining spec.old) (G.text terms.old))
+        (λ texts. IsJobRead (B.store bank.new) texts reading)) }
     ensures ready { IfOk result (IsReady (B.store bank.new)) }
     ensures out { OnOk result (IsReadOut (remaining_in R.remaining spec.old)
         (remaining_in R.remaining spec.new)) }
     ensures terms_out { OnOk result (OnGoodSpec (remaining_in R.remaining spec.old)
-        (IsReadOut (remaining_in T.remaining terms.old) (remaining_in T.remaining terms.new))) }
+        (G.is_read_out terms.old terms.new)) }
     ensures unread { OnRefusedSpec (remaining_in R.remaining spec.old) (terms.new ≡ terms.old) }
     ensures unused { OnRefusedSpec (remaining_in R.remaining spec.old) (bank.new ≡ bank.old) }
     ensures refused { OnRefusedSpec (remaining_in R.remaining spec.old) (EndsRefused result) }
@@ -177,31 +99,33 @@ pub fn read_both_from<B: TermBank, R: Read, T: Read>(
     ensures cap { (B.store bank.new).cap ≡ (B.store bank.old).cap }
     ensures fault { IfErr result (StopsUnwritten (B.store bank.old) (B.store bank.new)) }
     ensures same { IsSameInput spec.old spec.new }
-    ensures same_terms { IsSameInput terms.old terms.new }
-    ensures cause { TellsReads spec.new terms.new result }
+    ensures same_terms { G.is_same terms.old terms.new }
+    ensures reads { ReportsReadsOf spec.old spec.new
+        (G.refused terms.old) (G.refused terms.new) result }
 {
     let first = read_spec_text_from(alloc, spec)?;
     read_after(alloc, first, terms, bank)
 }
 
-/// Reads the text of a specification, and judges it.
-pub fn read_spec_text<R: Read>(alloc: Global, spec: &mut R) -> Result<Reading<Checked>, ReadFault>
+/// Reads the text of a specification, and parses and checks it.
+pub fn read_spec_text<R: Read>(alloc: Global, spec: &mut R) -> Result<Reading<Checked>, RunFault>
     ensures verdict { IfOk result
         (λ reading. IfSome (R.remaining spec.old) (λ bytes. IsSpecRead bytes reading)) }
     ensures source { IfOk result
         (λ reading. IfSome (R.remaining spec.old) (λ bytes. KeepsText bytes reading)) }
     ensures out { OnOk result (IsReadOut (R.remaining spec.old) (R.remaining spec.new)) }
+    ensures fault { IfErr result StopsReading }
 {
     let mut spec = Input::new(spec);
     read_spec_text_from(alloc, &mut spec)
 }
 
-/// The same from an input. It is asked no more once it refused.
+/// Reads the text of a specification from an input, and parses and checks it. An input that has
+/// failed is not used again.
 pub fn read_spec_text_from<R: Read>(
     alloc: Global,
     spec: &mut Input<'_, R>,
-) -> Result<Reading<Checked>, ReadFault>
-    requires { IsReadable spec.old }
+) -> Result<Reading<Checked>, RunFault>
     ensures verdict { IfOk result
         (λ reading. IfSome (remaining_in R.remaining spec.old)
         (λ bytes. IsSpecRead bytes reading)) }
@@ -209,29 +133,25 @@ pub fn read_spec_text_from<R: Read>(
         (λ bytes. KeepsText bytes reading)) }
     ensures out { OnOk result (IsReadOut (remaining_in R.remaining spec.old)
         (remaining_in R.remaining spec.new)) }
-    ensures same { IsSameInput spec.old spec.new }
-    ensures cause { TellsReading spec.new result }
+    ensures fault { IfErr result StopsReading }
+    ensures reports { ReportsRead spec.old spec.new result }
 {
     let text = read_all_from(alloc, spec)?;
     let reading = judge(alloc, text)?;
     Ok(reading)
 }
 
-/// Reads the text of terms where the specification is good.
-fn read_after<B: TermBank, T: Read>(
+/// Reads the text of the input terms, if there are some and the specification is accepted.
+fn read_after<B: TermBank, G: InputTerms>(
     alloc: Global,
     first: Reading<Checked>,
-    terms: &mut Input<'_, T>,
+    terms: &mut G,
     bank: &mut B,
 ) -> Result<Reading<Job>, RunFault>
-    requires { IsReadable terms.old }
-    ensures due { IfOk result (λ reading. (v : Verdict) → IsSpecReading first v
-        → IfSome (remaining_in T.remaining terms.old) (λ bytes. IsReadAs
-        (B.store bank.new) v bytes reading)) }
+    ensures read { IfOk result (λ reading. IfSome (G.text terms.old)
+        (λ given. IsJobAfter (B.store bank.new) given first reading)) }
     ensures ready { IfOk result (IsReady (B.store bank.new)) }
-    ensures out { OnOk result
-        (IsGood first → IsReadOut (remaining_in T.remaining terms.old)
-        (remaining_in T.remaining terms.new)) }
+    ensures out { OnOk result (IsGood first → G.is_read_out terms.old terms.new) }
     ensures unread { (v : Verdict) → IsSpecReading first v → IsRefusal v
         → terms.new ≡ terms.old }
     ensures unused { (v : Verdict) → IsSpecReading first v → IsRefusal v → bank.new ≡ bank.old }
@@ -240,8 +160,8 @@ fn read_after<B: TermBank, T: Read>(
     ensures roots { (B.store bank.new).roots ≡ (B.store bank.old).roots }
     ensures cap { (B.store bank.new).cap ≡ (B.store bank.old).cap }
     ensures fault { IfErr result (StopsUnwritten (B.store bank.old) (B.store bank.new)) }
-    ensures same { IsSameInput terms.old terms.new }
-    ensures cause { TellsRead terms.new result }
+    ensures same { G.is_same terms.old terms.new }
+    ensures reports { ReportsReadsBy (G.refused terms.old) (G.refused terms.new) result }
 {
     match first {
         Reading::Refused(refusal) => Ok(Reading::Refused(refusal)),
@@ -249,30 +169,53 @@ fn read_after<B: TermBank, T: Read>(
     }
 }
 
-/// Reads the text of terms for a good specification, and judges it.
-fn read_terms<B: TermBank, T: Read>(
+/// Reads and checks the text of the input terms, if there are some, for a specification.
+fn read_terms<B: TermBank, G: InputTerms>(
     alloc: Global,
     checked: Checked,
-    terms: &mut Input<'_, T>,
+    terms: &mut G,
     bank: &mut B,
 ) -> Result<Reading<Job>, RunFault>
-    requires { IsReadable terms.old }
-    ensures due { IfOk result (λ reading. IfSome (remaining_in T.remaining terms.old)
-        (λ bytes. IsReadFor (B.store bank.new) checked.spec bytes reading)) }
+    ensures read { IfOk result (λ reading. IfSome (G.text terms.old)
+        (λ given. IsJobAfter (B.store bank.new) given (Reading.Good checked) reading)) }
     ensures ready { IfOk result (IsReady (B.store bank.new)) }
-    ensures out { OnOk result (IsReadOut (remaining_in T.remaining terms.old)
-        (remaining_in T.remaining terms.new)) }
+    ensures out { OnOk result (G.is_read_out terms.old terms.new) }
     ensures roots { (B.store bank.new).roots ≡ (B.store bank.old).roots }
     ensures cap { (B.store bank.new).cap ≡ (B.store bank.old).cap }
     ensures fault { IfErr result (StopsUnwritten (B.store bank.old) (B.store bank.new)) }
-    ensures same { IsSameInput terms.old terms.new }
-    ensures cause { TellsRead terms.new result }
+    ensures same { G.is_same terms.old terms.new }
+    ensures reports { ReportsReadsBy (G.refused terms.old) (G.refused terms.new) result }
 {
-    let reading = read_terms_text_from(alloc, &checked, terms, bank)?;
-    Ok(job_from(checked, reading))
+    let text = terms.read_text(alloc)?;
+    judge_given(alloc, checked, text, bank)
 }
 
-/// What both texts came to, where that of the terms came to this.
+/// Returns the input of an evaluation, from a specification and the text of input terms, if any.
+fn judge_given<B: TermBank>(
+    alloc: Global,
+    checked: Checked,
+    text: Option<Vec<u8>>,
+    bank: &mut B,
+) -> Result<Reading<Job>, RunFault>
+    ensures read { IfOk result (IsJobAfter (B.store bank.new)
+        (option_map (λ text. text.items) text) (Reading.Good checked)) }
+    ensures ready { IfOk result (IsReady (B.store bank.new)) }
+    ensures grows { Grows (B.store bank.old) (B.store bank.new) }
+    ensures fault { IfErr result (RanOut (B.store bank.old) (B.store bank.new)) }
+{
+    match text {
+        None => Ok(Reading::Good(Job {
+            checked,
+            list: None,
+        })),
+        Some(text) => {
+            let reading = judge_terms(alloc, &checked, &text, bank)?;
+            Ok(job_from(checked, reading))
+        }
+    }
+}
+
+/// Combines an accepted specification with the result of reading input terms.
 fn job_from(checked: Checked, reading: Reading<Term>) -> Reading<Job>
     ensures { result ≡ job_of checked reading }
 {
@@ -285,49 +228,7 @@ fn job_from(checked: Checked, reading: Reading<Term>) -> Reading<Job>
     }
 }
 
-/// Reads the text of given terms for a good specification into a bank, and judges it.
-pub fn read_terms_text<B: TermBank, T: Read>(
-    alloc: Global,
-    checked: &Checked,
-    terms: &mut T,
-    bank: &mut B,
-) -> Result<Reading<Term>, RunFault>
-    ensures verdict { IfOk result (λ reading. IfSome (T.remaining terms.old)
-        (λ bytes. IsTermsRead checked.now.spec (B.store bank.new) bytes reading)) }
-    ensures holds { IfOk result (HoldsList checked.now.spec (B.store bank.new)) }
-    ensures out { OnOk result (IsReadOut (T.remaining terms.old) (T.remaining terms.new)) }
-    ensures roots { (B.store bank.new).roots ≡ (B.store bank.old).roots }
-    ensures cap { (B.store bank.new).cap ≡ (B.store bank.old).cap }
-    ensures fault { IfErr result (StopsUnwritten (B.store bank.old) (B.store bank.new)) }
-{
-    let mut terms = Input::new(terms);
-    read_terms_text_from(alloc, checked, &mut terms, bank)
-}
-
-/// The same from an input. It is asked no more once it refused.
-pub fn read_terms_text_from<B: TermBank, T: Read>(
-    alloc: Global,
-    checked: &Checked,
-    terms: &mut Input<'_, T>,
-    bank: &mut B,
-) -> Result<Reading<Term>, RunFault>
-    requires { IsReadable terms.old }
-    ensures verdict { IfOk result (λ reading. IfSome (remaining_in T.remaining terms.old)
-        (λ bytes. IsTermsRead checked.now.spec (B.store bank.new) bytes reading)) }
-    ensures holds { IfOk result (HoldsList checked.now.spec (B.store bank.new)) }
-    ensures out { OnOk result (IsReadOut (remaining_in T.remaining terms.old)
-        (remaining_in T.remaining terms.new)) }
-    ensures roots { (B.store bank.new).roots ≡ (B.store bank.old).roots }
-    ensures cap { (B.store bank.new).cap ≡ (B.store bank.old).cap }
-    ensures fault { IfErr result (StopsUnwritten (B.store bank.old) (B.store bank.new)) }
-    ensures same { IsSameInput terms.old terms.new }
-    ensures cause { TellsRead terms.new result }
-{
-    let text = read_all_from(alloc, terms)?;
-    judge_terms(alloc, checked, &text, bank)
-}
-
-/// The verdict on a text of terms for a good specification.
+/// Parses and checks a text of input terms for an accepted specification.
 fn judge_terms<B: TermBank>(
     alloc: Global,
     checked: &Checked,
@@ -345,7 +246,7 @@ fn judge_terms<B: TermBank>(
     }
 }
 
-/// The verdict on a text of terms that spells the term `list`.
+/// Checks the parsed list of input terms against the rules T1 to T6.
 fn judge_list<B: TermBank>(
     alloc: Global,
     checked: &Checked,
@@ -365,7 +266,7 @@ fn judge_list<B: TermBank>(
     }
 }
 
-/// What a text of terms comes to whose list is not accepted.
+/// Returns the error line or the error for a list of input terms that is not accepted.
 fn refuse_list(fault: TermsFault) -> Result<Reading<Term>, RunFault>
     ensures { result ≡ list_refused fault }
 {

@@ -1,4 +1,4 @@
--- What a checked specification stands for, and what always holds of it.
+-- The value of a checked specification in contracts, and its invariant.
 use Rattle.std.specs.Prelude.{◌≡◌, None, map, length}
 use Rattle.rec_syntax.specs.Syntax.{Spec, Sourced}
 use Rattle.rec_sorts.specs.Lookup.{symbols}
@@ -8,10 +8,11 @@ use Rattle.rec_sorts.specs.SortFaults.{first_place}
 use Rattle.rec_sorts.specs.declared.checked.Checked.TheInside.{Inside}
 use Rattle.rec_sorts.specs.declared.checked.Examined.{Examined}
 
+-- sourced_of: the text and the syntax tree
 abbrev pub sourced_of : Inside → Sourced
 sourced_of a = a.syntax
 
--- all rules are kept, and the numbers and letters are those of the specification
+-- IsChecked: no rule is violated, and numbers and postfix items are those of the specification
 pub record IsChecked (a : Inside) : Type 0 where
   pub kept : fault a.syntax.spec ≡ None
   pub constructors_counted : a.constructors ≡ length a.syntax.spec.constructors
@@ -22,7 +23,7 @@ pub record IsChecked (a : Inside) : Type 0 where
   pub terms_lettered : Pairwise (λ v t. AreLetters a.syntax.spec v.items t) a.terms.items
       a.syntax.spec.terms
 
--- all rules of a specification were asked, and its words numbered
+-- IsExamined y e: `e` has the violations of all rules and the numbered names of `y`
 pub record IsExamined (y : Spec) (e : Examined) : Type 0 where
   pub first_found : first_place 1 e.places ≡ fault y
   pub constructors_counted : e.constructors ≡ length y.constructors

@@ -1,4 +1,4 @@
--- A walk over the applications in a value under way.
+-- A walk over the applications in a value, in progress.
 use Rattle.std.specs.Prelude.{ℕ, suc, ◌+◌, ◌≡◌, ◌<◌, ◌⊎◌, true, List, [], ◌∷◌, ◌++◌, IsSome, map}
 use Rattle.std.specs.Prelude.{nat_eq}
 use Rattle.std.specs.List.{AllByRecursion, list_any}
@@ -10,34 +10,34 @@ use Rattle.rec_stuck.specs.Stuck.{applications, different}
 use Rattle.rec_stuck.specs.declared.applications.Visit.{Visit}
 use Rattle.rec_stuck.specs.declared.applications.Visit.TheVariants.{Enter, Leave}
 
--- a reference by its number
+-- reference n: the term reference with number `n`
 abbrev pub reference : ℕ → Term
 reference n = record { 0 = n }
 
--- the trees of references
+-- trees_of w ns: the trees of references
 abbrev pub trees_of : Store → List ℕ → List Tree
 trees_of w ns = map (λ n. held_tree w (reference n)) ns
 
--- they are there
+-- AreThere w ns: the store has the terms of these references
 abbrev pub AreThere : Store → List ℕ → Type 0
 AreThere w ns = AllByRecursion (λ n. IsSome (tree_at w (reference n))) ns
 
--- where a visit goes
+-- place_of v: the term that a visit enters or leaves
 abbrev pub place_of : Visit → Term
 place_of (Enter t) = t
 place_of (Leave t) = t
 
--- the applications that a visit leaves
+-- left_by w v: the applications that a visit leaves
 abbrev pub left_by : Store → Visit → List Tree
 left_by w (Enter t) = applications (held_tree w t)
 left_by w (Leave t) = held_tree w t ∷ []
 
--- those that visits leave, of which the last one comes first
+-- left_by_all w vs: the applications that visits leave; the last visit comes first
 abbrev pub left_by_all : Store → List Visit → List Tree
 left_by_all w [] = []
 left_by_all w (v ∷ vs) = left_by_all w vs ++ left_by w v
 
--- how many visits a tree takes, where none of it is passed over
+-- visits_of t: the number of visits that a tree takes if nothing is skipped
 abbrev mutual
   pub visits_of : Tree → ℕ
   visits_of (Appl name quoted args anns) = suc (suc (visits_of_all args))
@@ -48,19 +48,22 @@ abbrev mutual
   visits_of_all none = 1
   visits_of_all (more t ts) = suc (visits_of t + visits_of_all ts)
 
+-- visits_by w v: the number of visits that a visit takes, with itself
 abbrev pub visits_by : Store → Visit → ℕ
 visits_by w (Enter t) = visits_of (held_tree w t)
 visits_by w (Leave t) = 1
 
+-- visits_by_all w vs: the number of visits that all of these take
 abbrev pub visits_by_all : Store → List Visit → ℕ
 visits_by_all w [] = 0
 visits_by_all w (v ∷ vs) = visits_by w v + visits_by_all w vs
 
--- the places that visits go to are there
+-- CanVisit w vs: the store has the terms of these visits
 abbrev pub CanVisit : Store → List Visit → Type 0
 CanVisit w vs = AllByRecursion (λ v. IsSome (tree_at w (place_of v))) vs
 
--- a tree was gone into: the visits that follow leave its applications, or it was left before
+-- Enters w t left old new: a tree was entered: the new visits leave its applications, or it was
+-- left before
 pub record Enters (w : Store) (t : Term) (left : List ℕ) (old new : List Visit) : Type 0 where
   pub visits : List Visit
   pub pushed : new ≡ old ++ visits
@@ -69,7 +72,7 @@ pub record Enters (w : Store) (t : Term) (left : List ℕ) (old new : List Visit
       ⊎ ((list_any (nat_eq t.0) left ≡ true) × (visits ≡ []))
   pub fewer : visits_by_all w visits < visits_of (held_tree w t)
 
--- the applications so far were left, and the others are left by the visits that follow
+-- Walked w v left visits: the applications so far were left, and the visits leave the others
 pub record Walked (w : Store) (v : Tree) (left : List ℕ) (visits : List Visit) : Type 0 where
   pub before : List Tree
   pub all : applications v ≡ before ++ left_by_all w visits

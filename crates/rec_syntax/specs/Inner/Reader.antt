@@ -1,4 +1,4 @@
--- What the reader's fields stand for: a state of the machine.
+-- The state of the machine that the fields of the reader represent.
 use Rattle.std.specs.Prelude.{◌≡◌, ℕ, ◌+◌, ◌≤◌, Bool, true, false, List, [], ◌∷◌, length, map, drop}
 use Rattle.std.specs.Prelude.{reverse, All, Option, Some, None, Result, Ok, Err}
 use Rattle.rec_syntax.specs.Syntax as syntax
@@ -30,16 +30,17 @@ use Rattle.rec_syntax.specs.declared.reader.Reader.{Reader}
 use Rattle.rec_syntax.specs.declared.reader.Stop.{Stop}
 use Rattle.rec_syntax.specs.declared.reader.Stop.TheVariants as stop
 
--- the section that is open
+-- the open section
 abbrev pub level_of : Option Part → machine.Level
 level_of None = machine.Top
 level_of (Some p) = machine.In (section_of p)
 
--- whether the symbols are constructors
+-- flag_of: whether the symbols are constructors
 abbrev pub flag_of : Symbols → Bool
 flag_of Constructors = true
 flag_of Operators = false
 
+-- the role of the term that is being read
 abbrev pub role_of : List ℕ → Role → machine.Role
 role_of bytes Left = machine.Left
 role_of bytes (Right l) = machine.Right (term_of bytes l)
@@ -49,7 +50,7 @@ role_of bytes (ConditionRight r x e) = machine.CondRight (term_of bytes r.left)
     (term_of bytes r.right) (map (condition_of bytes) r.conditions.items) (term_of bytes x) e
 role_of bytes InEval = machine.InEval
 
--- the terms that are read, the newest first
+-- the terms that were read, the newest first
 abbrev pub made_of : List ℕ → List Node → List syntax.Term
 made_of bytes ns = made_by [] (map (node_of bytes) ns)
 
@@ -60,15 +61,16 @@ frames_of bytes (c ∷ cs) made =
     record { word = word_of bytes c.word; arguments = newest c.count made none }
     ∷ frames_of bytes cs (drop c.count made)
 
--- the terms but the newest
+-- the terms without the newest one
 abbrev pub rest : List syntax.Term → List syntax.Term
 rest [] = []
 rest (t ∷ made) = made
 
--- the open applications of a stack whose terms are these
+-- open_of bytes r made: the open applications of the reader's stack, whose terms are `made`
 abbrev pub open_of : List ℕ → Reader → List syntax.Term → List Frame
 open_of bytes r made = frames_of bytes (reverse r.calls.items) made
 
+-- due_of bytes d r: the control state of the machine
 abbrev pub due_of : List ℕ → Due → Reader → machine.Due
 due_of bytes Start r = machine.Start
 due_of bytes Title r = machine.Title
@@ -92,31 +94,33 @@ due_of bytes After r = machine.After (role_of bytes r.role)
 due_of bytes Ended r = machine.Ended
 due_of bytes Done r = machine.Done
 
+-- state_of bytes d r: the state of the machine
 abbrev pub state_of : List ℕ → Due → Reader → State
 state_of bytes d r = record { due = due_of bytes d r; read = spec_of bytes r.sections }
 
--- the machine's answer to a token
+-- advance bytes d r k: the machine's transition for token `k`
 abbrev pub advance : List ℕ → Due → Reader → LexemeKind → Option State
 advance bytes d r k = machine.step (due_of bytes d r) (spec_of bytes r.sections) (token_of bytes k)
 
--- how many arguments the open applications have
+-- total: the number of arguments of all open applications
 abbrev pub total : List Call → ℕ
 total [] = 0
 total (c ∷ cs) = c.count + total cs
 
--- each node has its arguments before it
+-- Enough made ns: each node comes after as many terms as it has arguments
 abbrev pub Enough : List syntax.Term → List nodes.Node → Type 0
 Enough made [] = Unit {0}
 Enough made (n ∷ ns) = (n.count ≤ length made) × Enough (assembled n made) ns
 
--- every term belongs to one open application, but `loose` ones; all words lie within the text
+-- IsStack: each term except `loose` ones belongs to one open application, and all names lie within
+-- the text
 pub record IsStack (bytes : List ℕ) (loose : ℕ) (cs : List Call) (ns : List Node) : Type 0 where
   pub calls : All (λ c. Within bytes c.word) cs
   pub nodes : All (λ n. Within bytes n.word) ns
   pub enough : Enough [] (map (node_of bytes) ns)
   pub counted : total (reverse cs) + loose ≡ length (made_of bytes ns)
 
--- the terms that were read before
+-- IsRole bytes role: the parts that were read before this term are well formed
 abbrev pub IsRole : List ℕ → Role → Type 0
 IsRole bytes Left = Unit {0}
 IsRole bytes (Right l) = IsTerm bytes l
@@ -124,17 +128,17 @@ IsRole bytes (ConditionLeft r) = IsRule bytes r
 IsRole bytes (ConditionRight r x e) = IsRule bytes r × IsTerm bytes x
 IsRole bytes InEval = Unit {0}
 
--- the words of a declaration or a group
+-- AreWords: the names of a declaration or a group lie within the text
 pub record AreWords (bytes : List ℕ) (w : Span) (r : Reader) : Type 0 where
   pub first : Within bytes w
   pub others : All (Within bytes) r.words.items
 
--- a term that is being read
+-- InTerm: a term is being read, with `loose` terms outside the open applications
 pub record InTerm (bytes : List ℕ) (loose : ℕ) (r : Reader) : Type 0 where
   pub role : IsRole bytes r.role
   pub stack : IsStack bytes loose r.calls.items r.nodes.items
 
--- what holds of the fields that matter
+-- HoldsDue bytes d r: the invariant of the fields that control state `d` uses
 abbrev pub HoldsDue : List ℕ → Due → Reader → Type 0
 HoldsDue bytes (Named k w) r = Within bytes w
 HoldsDue bytes (Arguments k w) r = AreWords bytes w r
@@ -147,26 +151,27 @@ HoldsDue bytes (First w) r = Within bytes w × InTerm bytes 0 r
 HoldsDue bytes After r = InTerm bytes 1 r
 HoldsDue bytes d r = Unit {0}
 
--- the fields are those of a state
+-- IsState bytes d r: the reader represents a state of the machine
 pub record IsState (bytes : List ℕ) (d : Due) (r : Reader) : Type 0 where
   pub sections : AreSections bytes r.sections
   pub due : HoldsDue bytes d r
 
--- a step of the machine, unless memory ran out
+-- Moves: the result is that of the machine's transition, unless an allocation failed
 abbrev pub Moves : List ℕ → Option State → Result Due Stop → Reader → Type 0
 Moves bytes moved (Ok d) r = (moved ≡ Some (state_of bytes d r)) × IsState bytes d r
 Moves bytes moved (Err stop.Refused) r = moved ≡ None
 Moves bytes moved (Err stop.Memory) r = Unit {0}
 
--- the reader is in a state, with this due
+-- IsAt d r: the reader is in control state `d` over its own text
 abbrev pub IsAt : Due → Reader → Type 0
 IsAt d r = IsState r.source.items d r
 
--- where this is due, a token leads to where the machine goes
+-- Steps d r k result after: in control state `d`, token `k` leads to the machine's next state
 abbrev pub Steps : Due → Reader → LexemeKind → Result Due Stop → Reader → Type 0
 Steps d r k result after = Moves r.source.items (advance r.source.items d r k) result after
 
--- behind a whole term in this role, a token leads to where the machine goes
+-- Completes p t r k result after: after the whole term `t` in role `p`, token `k` leads to the
+-- machine's next state
 abbrev pub Completes : Role → Term → Reader → LexemeKind → Result Due Stop → Reader → Type 0
 Completes p t r k result after = Moves r.source.items
     (machine.complete (role_of r.source.items p) (term_of r.source.items t)

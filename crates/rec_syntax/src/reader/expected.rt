@@ -1,4 +1,4 @@
-//! What may stand at the place of a fault.
+//! The kinds of tokens that are possible at the offset of a syntax error.
 
 ghost use Rattle.std.specs.Prelude.{◌≡◌, ◌↔◌, ℕ, true, List, Contains, IfOk, is_some};
 ghost use Rattle.rec_syntax.specs.Syntax as syntax;
@@ -14,7 +14,7 @@ use crate::lexer::{LexemeKind, Part, next};
 use crate::token_kind::TokenKind;
 use std::alloc::{AllocError, Global};
 
-/// Whether a token of this kind may stand behind a whole item.
+/// Returns whether a token of this kind can follow a whole item of the open section.
 fn is_after_item(level: Option<Part>, kind: TokenKind) -> bool
     ensures { (y : Spec) → result ≡ is_taken (between (level_of level) y) kind }
 {
@@ -26,7 +26,7 @@ fn is_after_item(level: Option<Part>, kind: TokenKind) -> bool
     }
 }
 
-/// Whether a token of this kind may stand behind a whole term that is no argument.
+/// Returns whether a token of this kind can follow a whole term that is not an argument.
 fn is_after_whole(role: &Role, kind: TokenKind) -> bool
     ensures { (bytes : List ℕ) (t : syntax.Term) (y : Spec)
         → result ≡ is_taken (complete (role_of bytes role.now) t y) kind }
@@ -47,7 +47,7 @@ fn is_after_whole(role: &Role, kind: TokenKind) -> bool
 }
 
 impl Reader {
-    /// Whether a token of this kind may stand behind a whole term.
+    /// Returns whether a token of this kind can follow a whole term.
     fn is_after_term(&self, kind: TokenKind) -> bool
         ensures { (t : syntax.Term) (y : Spec) (made : List syntax.Term)
             → result ≡ is_taken (after (role_of self.now.source.items self.now.role) t
@@ -60,7 +60,7 @@ impl Reader {
         }
     }
 
-    /// Whether a token of this kind may stand here.
+    /// Returns whether a token of this kind can come next.
     fn is_expected(&self, due: Due, kind: TokenKind) -> bool
         ensures { (y : Spec)
             → result ≡ is_taken (step (due_of self.now.source.items due self.now) y) kind }
@@ -85,7 +85,7 @@ impl Reader {
         }
     }
 
-    /// The kinds of tokens that may stand here.
+    /// Returns the kinds of tokens that can come next.
     fn expected_kinds(&self, alloc: Global, due: Due) -> Result<Vec<TokenKind>, AllocError>
         ensures { (y : Spec) → IfOk result (λ kinds. (k : TokenKind) → Contains kinds.items k
             ↔ (is_taken (step (due_of self.now.source.items due self.now) y) k ≡ true)) }
@@ -99,7 +99,7 @@ impl Reader {
         Ok(kinds)
     }
 
-    /// Whether this token may stand here.
+    /// Returns whether the reader can take this token next.
     fn may_take(&self, due: Due, token: LexemeKind) -> bool
         ensures { let bytes = self.now.source.items in (y : Spec)
             → result ≡ is_some (step (due_of bytes due self.now) y (token_of bytes token)) }
@@ -110,7 +110,8 @@ impl Reader {
         }
     }
 
-    /// Reads the tokens before the fault's place, from the first one on; what is due there.
+    /// Reads the tokens before the error offset, from the first one on, and returns the control
+    /// state there.
     fn read_to_fault(&mut self) -> Result<Due, AllocError>
         requires start { state_of self.old.source.items Due.Start self.old ≡ start }
         requires state { IsAt Due.Start self.old }
@@ -135,7 +136,8 @@ impl Reader {
         }
     }
 
-    /// What may stand at the fault's place, from before the first token on.
+    /// Returns the kinds of tokens that are possible at the error offset. The reader is before the
+    /// first token.
     fn expected_in_text(&mut self, alloc: Global) -> Result<Vec<TokenKind>, AllocError>
         requires start { state_of self.old.source.items Due.Start self.old ≡ start }
         requires state { IsAt Due.Start self.old }
@@ -146,15 +148,16 @@ impl Reader {
     }
 }
 
-/// What may stand at the place of this text's fault.
+/// Returns the kinds of tokens that are possible at the error offset of this text.
 fn expected_in(alloc: Global, source: Vec<u8>) -> Result<Vec<TokenKind>, AllocError>
     ensures { IfOk result (λ kinds. AreExpected source.items kinds.items) }
 {
     Reader::new(alloc, source).expected_in_text(alloc)
 }
 
-/// What may stand at the place of the fault of a text that is outside the grammar: each kind of
-/// tokens that some text has there, behind the tokens before it.
+/// Returns the kinds of tokens that are possible at the offset of the syntax error: each kind of
+/// which some text of the grammar has a token there, after the tokens before it. For a text without
+/// a syntax error nothing is promised. Reads the text once up to the error.
 pub fn expected_at_fault(alloc: Global, bytes: &[u8]) -> Result<Vec<TokenKind>, AllocError>
     ensures { IfOk result (λ kinds. AreExpected bytes.now kinds.items) }
 {

@@ -1,4 +1,4 @@
-//! The title, and the items of the sections before the rules.
+//! Transitions for the title and for the items of the sections before `RULES`.
 
 ghost use Rattle.std.specs.Prelude.{◌≡◌};
 ghost use Rattle.rec_syntax.specs.Lexemes.{section_of, Within, IsToken};
@@ -12,7 +12,7 @@ use crate::parts::{Declaration, Group};
 use smallvec::SmallVec;
 use std::mem;
 
-/// Whether the section comes after the open one.
+/// Returns whether `part` comes after the open section.
 pub(super) fn is_later(level: Option<Part>, part: Part) -> bool
     ensures { result ≡ later (level_of level) (section_of part) }
 {
@@ -23,7 +23,7 @@ pub(super) fn is_later(level: Option<Part>, part: Part) -> bool
 }
 
 impl Reader {
-    /// After REC-SPEC: the name.
+    /// After `REC-SPEC`: takes the name.
     pub(super) fn title(&mut self, token: LexemeKind) -> Result<Due, Stop>
         requires state { IsAt Due.Title self.old }
         requires token { IsToken self.old.source.items token }
@@ -39,7 +39,7 @@ impl Reader {
         }
     }
 
-    /// An item of the open section begins with this word.
+    /// Takes the identifier with which an item of the open section begins.
     fn item(&mut self, level: Option<Part>, word: Span) -> Result<Due, Stop>
         requires sections { AreSections self.old.source.items self.old.sections }
         requires word { Within self.old.source.items word }
@@ -69,7 +69,7 @@ impl Reader {
         }
     }
 
-    /// After a whole item: another one, a later section, or the end.
+    /// After a whole item: takes the start of another one, a later section's word, or `END-SPEC`.
     pub(super) fn between(&mut self, level: Option<Part>, token: LexemeKind) -> Result<Due, Stop>
         requires sections { AreSections self.old.source.items self.old.sections }
         requires token { IsToken self.old.source.items token }
@@ -90,7 +90,7 @@ impl Reader {
         }
     }
 
-    /// After a declaration's word: the colon.
+    /// After the name of a declaration: takes the colon.
     pub(super) fn after_name(
         &mut self,
         symbols: Symbols,
@@ -111,7 +111,7 @@ impl Reader {
         }
     }
 
-    /// After the colon: the sorts of the arguments, and the arrow.
+    /// After the colon of a declaration: takes the sort of an argument, or the arrow.
     pub(super) fn arguments(
         &mut self,
         symbols: Symbols,
@@ -133,7 +133,7 @@ impl Reader {
         }
     }
 
-    /// After the arrow: the sort.
+    /// After the arrow of a declaration: takes the result sort.
     pub(super) fn result_sort(
         &mut self,
         symbols: Symbols,
@@ -168,7 +168,7 @@ impl Reader {
         }
     }
 
-    /// After a group's first word: the others, and the colon.
+    /// After the first name of a group of variables: takes another name, or the colon.
     pub(super) fn group_words(&mut self, first: Span, token: LexemeKind) -> Result<Due, Stop>
         requires state { IsAt (Due.Grouped first) self.old }
         requires token { IsToken self.old.source.items token }
@@ -185,7 +185,7 @@ impl Reader {
         }
     }
 
-    /// After a group's colon: the sort.
+    /// After the colon of a group of variables: takes the sort.
     pub(super) fn group_sort(&mut self, first: Span, token: LexemeKind) -> Result<Due, Stop>
         requires state { IsAt (Due.GroupSort first) self.old }
         requires token { IsToken self.old.source.items token }

@@ -1,4 +1,4 @@
-//! Terms, and the rules and the terms to evaluate that are made of them.
+//! Transitions for terms, and for the rules and EVAL terms that consist of them.
 
 ghost use Rattle.std.specs.Prelude.{◌≡◌, []};
 ghost use Rattle.rec_syntax.specs.Lexemes.{IsToken};
@@ -12,7 +12,7 @@ use smallvec::SmallVec;
 use std::mem;
 
 impl Reader {
-    /// Nothing is read of the next term.
+    /// Starts a new term in this role, of which nothing is read.
     pub(super) fn begin(&mut self, role: Role)
         ensures role { self.new.role ≡ role }
         ensures calls { self.new.calls.items ≡ [] }
@@ -25,7 +25,7 @@ impl Reader {
         self.nodes.clear();
     }
 
-    /// A term's word.
+    /// Takes the identifier with which a term begins.
     pub(super) fn at_term(&mut self, token: LexemeKind) -> Result<Due, Stop>
         requires state { IsAt Due.AtTerm self.old }
         requires token { IsToken self.old.source.items token }
@@ -38,7 +38,8 @@ impl Reader {
         }
     }
 
-    /// After a term's word: an opening parenthesis, or what follows a term.
+    /// After the identifier of a term: takes an opening parenthesis, or a token that can follow a
+    /// term.
     pub(super) fn after_word(&mut self, word: Span, token: LexemeKind) -> Result<Due, Stop>
         requires state { IsAt (Due.Called word) self.old }
         requires token { IsToken self.old.source.items token }
@@ -54,7 +55,8 @@ impl Reader {
         }
     }
 
-    /// After an opening parenthesis: the first argument, or the closing one.
+    /// After an opening parenthesis: takes the first argument's identifier, or the closing
+    /// parenthesis.
     pub(super) fn first(&mut self, word: Span, token: LexemeKind) -> Result<Due, Stop>
         requires state { IsAt (Due.First word) self.old }
         requires token { IsToken self.old.source.items token }
@@ -74,7 +76,8 @@ impl Reader {
         }
     }
 
-    /// After a whole term.
+    /// After a whole term: takes a comma, a closing parenthesis, or a token that can follow its
+    /// item.
     pub(super) fn after(&mut self, token: LexemeKind) -> Result<Due, Stop>
         requires state { IsAt Due.After self.old }
         requires token { IsToken self.old.source.items token }
@@ -103,8 +106,8 @@ impl Reader {
         }
     }
 
-    /// After a whole term that is no argument: its nodes are copied, into as much room as they
-    /// take, so that the reader's own room serves the next term.
+    /// After a whole term that is not an argument. Its nodes are copied into exactly as much room
+    /// as they take, so that the reader's own vectors are reused for the next term.
     fn complete(&mut self, token: LexemeKind) -> Result<Due, Stop>
         requires state { IsAt Due.After self.old }
         requires alone { self.old.calls.items ≡ [] }
@@ -117,7 +120,7 @@ impl Reader {
         self.take_term(Term { nodes }, token)
     }
 
-    /// After such a term, which is this one.
+    /// After the whole term `term`, which is not an argument: takes the token that follows it.
     fn take_term(&mut self, term: Term, token: LexemeKind) -> Result<Due, Stop>
         requires sections { AreSections self.old.source.items self.old.sections }
         requires role { IsRole self.old.source.items self.old.role }
@@ -145,7 +148,7 @@ impl Reader {
         }
     }
 
-    /// After a rule's left side: the arrow.
+    /// After the left-hand side of a rule: takes the arrow.
     fn after_left(&mut self, left: Term, token: LexemeKind) -> Result<Due, Stop>
         requires sections { AreSections self.old.source.items self.old.sections }
         requires left { IsTerm self.old.source.items left }
@@ -161,7 +164,7 @@ impl Reader {
         }
     }
 
-    /// After a rule's right side: a condition, or what follows a rule.
+    /// After the right-hand side of a rule: takes `if`, or a token that can follow a rule.
     fn after_right(&mut self, left: Term, right: Term, token: LexemeKind) -> Result<Due, Stop>
         requires sections { AreSections self.old.source.items self.old.sections }
         requires left { IsTerm self.old.source.items left }
@@ -187,7 +190,7 @@ impl Reader {
         }
     }
 
-    /// After a condition's left term: the mark.
+    /// After the left term of a condition: takes `-><-` or `->/<-`.
     fn after_condition_left(
         &mut self,
         rule: Rule,
@@ -213,7 +216,7 @@ impl Reader {
         }
     }
 
-    /// After a whole condition: another one, or what follows a rule.
+    /// After a whole condition: takes `and-if`, or a token that can follow a rule.
     fn after_condition(
         &mut self,
         mut rule: Rule,

@@ -1,4 +1,4 @@
--- The values that are in the list that a tracer keeps in a bank.
+-- The values in the list that a tracer keeps in a store.
 use Rattle.std.specs.Prelude.{ℕ, ◌-◌, ◌≡◌, ◌≤◌, List, Contains, drop, length, reverse, take}
 use Rattle.rx_term.specs.Store.{Store}
 use Rattle.rx_term.specs.Walks.{AllHeld, held_tree, held_trees}
@@ -8,18 +8,18 @@ use Rattle.rec_trace.specs.Rows.{KeepsParts}
 use Rattle.rec_trace.specs.declared.row.Row.{Row}
 use Rattle.rec_trace.specs.declared.saved.Saved.{Saved}
 
--- the list holds the lowest values
+-- AreSaved w vs s: the list has the lowest values
 pub record AreSaved (w : Store) (vs : List Reference) (s : Saved) : Type 0 where
   pub within : s.count ≤ length vs
   pub counted : length (listed w s.list) ≡ s.count
   pub same : held_trees w (take s.count vs) ≡ reverse (listed w s.list)
 
--- no more than so many of its lowest items are left
+-- Shortens w w' old new count: at most the `count` lowest items of the list are left
 pub record Shortens (w w' : Store) (old new : Saved) (count : ℕ) : Type 0 where
   pub left : new.count ≡ old.count - (old.count - count)
   pub items : listed w' new.list ≡ drop (old.count - count) (listed w old.list)
 
--- so many values are in the list at least, and all stay
+-- Lengthens ..: the list has at least `count` values, and all values stay
 pub record Lengthens (w w' : Store) (old new : List Reference) (s : Saved) (count : ℕ) : Type 0
   where
     pub values : new ≡ old
@@ -28,7 +28,8 @@ pub record Lengthens (w w' : Store) (old new : List Reference) (s : Saved) (coun
     pub saved : AreSaved w' new s
     pub enough : count ≤ s.count
 
--- values stay, perhaps below others, and no fewer of the lowest ones are in the list
+-- KeepsLowest ..: the values stay, perhaps below others, and the list has no fewer of the lowest
+-- ones
 pub record KeepsLowest (w w' : Store) (old new : List Reference) (before after : Saved) : Type 0
   where
     pub values : take (length old) new ≡ old
@@ -36,7 +37,8 @@ pub record KeepsLowest (w w' : Store) (old new : List Reference) (before after :
     pub saved : AreSaved w' old after
     pub enough : before.count ≤ after.count
 
--- so many of a row's values are in the list at least, and all stay, as its steps do
+-- Saves ..: the list has at least the `count` lowest values of a row; all its values and operations
+-- stay
 pub record Saves (w w' : Store) (old new : Row) (s : Saved) (count : ℕ) : Type 0 where
   pub steps : new.steps ≡ old.steps
   pub values : new.values.items ≡ old.values.items
@@ -44,20 +46,20 @@ pub record Saves (w w' : Store) (old new : Row) (s : Saved) (count : ℕ) : Type
   pub saved : IsSaved w' new s
   pub enough : count ≤ new.low
 
--- a row's values stay, perhaps below others, and its steps
+-- KeepsSaved ..: the values of a row stay, perhaps below others, and its operations stay
 pub record KeepsSaved (w w' : Store) (old new : Row) (s : Saved) : Type 0 where
   pub steps : new.steps ≡ old.steps
   pub values : take (length old.values.items) new.values.items ≡ old.values.items
   pub parts : KeepsParts w w' old.values.items
   pub saved : IsSaved w' new s
 
--- so many of a row's lowest values are left, and all of them stay in the bank
+-- Leaves ..: the `count` lowest values of a row are left, and all of them stay in the store
 pub record Leaves (w w' : Store) (old new : Row) (s : Saved) (count : ℕ) : Type 0 where
   pub steps : new.steps ≡ old.steps
   pub values : new.values.items ≡ take count old.values.items
   pub parts : KeepsParts w w' old.values.items
   pub saved : IsSaved w' new s
 
--- all values are items of a list
+-- HasAll w list vs: all values are items of a list
 abbrev pub HasAll : Store → Reference → List Reference → Type 0
 HasAll w list vs = (r : Reference) → Contains vs r → Contains (listed w list) (held_tree w r)

@@ -1,4 +1,4 @@
--- What each turn of a tracer needs, and what it does.
+-- Conditions and results of each operation of a tracer.
 use Rattle.std.specs.Prelude.{ℕ, ◌≡◌, ◌≤◌, ◌<◌, Bool, true, false, IsSome, List, [], ◌∷◌}
 use Rattle.std.specs.Prelude.{◌++◌, Option, Some, None, drop, length, map, reverse, take}
 use Rattle.std.specs.Option.{option_map}
@@ -23,18 +23,18 @@ use Rattle.rec_trace.specs.declared.tracer.Event.{Event}
 use Rattle.rec_trace.specs.declared.tracer.Event.TheVariants as event
 use Rattle.rec_trace.specs.declared.tracer.Tracer.{Tracer}
 
--- a rule matches a tree that is held, and has such a side
+-- CanTake y w i side redex: rule number `i` matches a tree of the store, and has this side
 abbrev pub CanTake : Spec → Store → ℕ → Side → Reference → Type 0
 CanTake y w i side redex = (r : Rule) × (s : Substitution) × IsMatch y i (held_tree w redex) r s
     × HasSide r side × IsSome (tree_at w redex)
 
--- there is a move, and values enough for it
+-- CanTurn ms d: there is a move, and `d` values are enough for it
 abbrev pub CanTurn : List Move → ℕ → Type 0
 CanTurn [] d = ⊥
 CanTurn (Give v ∷ ms) d = Unit {0}
 CanTurn (Invoke name k ∷ ms) d = k ≤ d
 
--- a symbol is called on the values on top, behind which steps are left
+-- HasCalled ..: a symbol was called on the values on top, and the other moves are left
 abbrev pub HasCalled : Spec → Store → Store → Tracer → Tracer → List ℕ → ℕ → Bool → Type 0
 HasCalled y w w' old new name k true = (v : Tree)
     × (Call y old.left (application name (taken k (stack_at w old) none)) ≡ Done v new.left)
@@ -43,7 +43,7 @@ HasCalled y w w' old new name k true = (v : Tree)
 HasCalled y w w' old new name k false =
     Call y old.left (application name (taken k (stack_at w old) none)) ≡ Over
 
--- a move is made: so many moves and this stack are left
+-- Moves ..: one move was made; these moves and this stack are left
 abbrev pub Moves : Caller → ℕ → ℕ → List Move → List Tree → List Move → List Tree → Bool → Type 0
 Moves c n n' [] st ms' st' more = ⊥
 Moves c n n' (Give v ∷ ms) st ms' st' true = (n' ≡ n) × (ms' ≡ ms) × (st' ≡ v ∷ st)
@@ -53,7 +53,7 @@ Moves c n n' (Invoke name k ∷ ms) st ms' st' true = (v : Tree)
 Moves c n n' (Invoke name k ∷ ms) st ms' st' false =
     c n (application name (taken k st none)) ≡ Over
 
--- the next move is made
+-- Turns ..: the next move was made
 abbrev pub Turns : Caller → Spec → Store → Store → Tracer → Tracer → Bool → Type 0
 Turns c y w w' old new true = IsInOrder y w' new
     × Moves c old.left new.left (moves_at y w old) (stack_at w old) (moves_at y w' new)
@@ -61,33 +61,36 @@ Turns c y w w' old new true = IsInOrder y w' new
 Turns c y w w' old new false = Moves c old.left new.left (moves_at y w old) (stack_at w old)
     (moves_at y w' new) (stack_at w' new) false
 
--- the first moves, so many, are made: their value comes on top, and the others are left
+-- HasGone y w w' old new k v: the first `k` moves were made: their value is on top, and the others
+-- are left
 pub record HasGone (y : Spec) (w w' : Store) (old new : Tracer) (k : ℕ) (v : Tree) : Type 0 where
   pub order : IsInOrder y w' new
   pub moves : moves_at y w' new ≡ drop k (moves_at y w old)
   pub stack : stack_at w' new ≡ v ∷ stack_at w old
 
+-- HasRun ..: the first `k` moves were made, or the step limit is too low
 abbrev pub HasRun : Caller → Spec → Store → Store → Tracer → Tracer → ℕ → Bool → Type 0
 HasRun c y w w' old new k true = (v : Tree)
     × (result c old.left (take k (moves_at y w old)) [] ≡ Done v new.left)
     × HasGone y w w' old new k v
 HasRun c y w w' old new k false = result c old.left (take k (moves_at y w old)) [] ≡ Over
 
--- a rule matches the tree on top, and has a condition of this number
+-- HasCondition y st i j: rule number `i` matches the tree on top, and has condition number `j`
 abbrev pub HasCondition : Spec → List Tree → ℕ → ℕ → Type 0
 HasCondition y st i j = (r : Rule) × (s : Substitution) × IsMatch y i (on_top st) r s
     × (j < length r.conditions)
 
--- the number of a rule that matches
+-- number_of o: the number of a rule that matches
 abbrev pub number_of : Option NumberedMatch → Option ℕ
 number_of o = option_map (λ m. m.number) o
 
--- where the rule of a number matches the tree on top, references have its values
+-- IsBound y w t i bind: if rule number `i` matches the tree on top, `bind` has its values
 abbrev pub IsBound : Spec → Store → Tracer → ℕ → List Reference → Type 0
 IsBound y w t i bind = (r : Rule) (s : Substitution) → IsMatch y i (on_top (stack_at w t)) r s
     → HasValues w (top_of t.row) bind s
 
--- a rule fires at the tree on top: the moves of its right side come first, and the tree goes
+-- HasFired ..: a rule is applied to the tree on top: the moves of its right-hand side come first,
+-- and the tree is removed
 pub record HasFired (y : Spec) (w w' : Store) (old new : Tracer) (r : Rule) (s : Substitution)
     (redex : Reference) : Type 0 where
   pub order : IsInOrder y w' new
@@ -96,7 +99,8 @@ pub record HasFired (y : Spec) (w w' : Store) (old new : Tracer) (r : Rule) (s :
   pub stack : on_top (stack_at w old) ∷ stack_at w' new ≡ stack_at w old
   pub redex_is : tree_at w' redex ≡ Some (on_top (stack_at w old))
 
--- a call with what is found for it: the limit, or a rule that fires; or the tree is its own value
+-- Comes ..: the result of a call, by the rule that was found for it: the limit, a rewrite, or the
+-- tree itself as its value
 abbrev pub Comes : Spec → Store → Store → Tracer → Tracer → Tree → List Tree
     → Outcome (Option Match) → Option Event → Type 0
 Comes y w w' old new u st o None = (o ≡ Done None new.left) × IsInOrder y w' new
@@ -108,13 +112,14 @@ Comes y w w' old new u st o (Some (event.Fired i redex)) = (m : Match)
     × (moves_at y w' new ≡ moves m.values m.rule.right ++ moves_at y w old)
     × (stack_at w' new ≡ st) × (tree_at w' redex ≡ Some u)
 
+-- ComesTo ..: the result of the call of a symbol on the values on top
 abbrev pub ComesTo : Spec → Store → Store → Tracer → Tracer → List ℕ → ℕ → Option Event → Type 0
 ComesTo y w w' old new name k event =
     let u = application name (taken k (stack_at w old) none) in
     Comes y w w' old new u (drop k (stack_at w old))
     (first_rule y (Eval y) y.rules old.left u) event
 
--- steps are the calls of a ground term's letters
+-- IsGroundRow y steps ls: the operations are the calls of a ground term in postfix form
 pub record IsGroundRow (y : Spec) (steps : List Step) (ls : List Letter) : Type 0 where
   pub steps_are : AreSteps y (reverse steps)
   pub given : (w : Store) (vs : List Reference) → AreGiven w (reverse steps) vs

@@ -1,6 +1,6 @@
-//! The sides of rules as steps.
+//! Converts the sides of rules to operations.
 
-ghost use Rattle.std.specs.Prelude.{◌≡◌, OnOk, IfOk, if◌then◌else◌, length, take};
+ghost use Rattle.std.specs.Prelude.{◌≡◌, OnOk, IfOk, if◌then◌else◌, length, take, IfErr};
 ghost use Rattle.rec_syntax.specs.Syntax.{Rule};
 ghost use Rattle.rec_sorts.specs.Binding.{Substitution};
 ghost use Rattle.rec_trace.specs.Inner.Sides.{HasSide, HasValues, IsMatch, IsRead, side_of};
@@ -10,6 +10,7 @@ ghost use Rattle.rec_trace.specs.Rows.{IsRow, Lowers};
 ghost use Rattle.rec_trace.specs.States.{moves};
 ghost use Rattle.rec_trace.specs.declared.row.Step.TheVariants as step;
 ghost use Rattle.rx_term.specs.Walks.{held_tree};
+ghost use Rattle.rec_engine.specs.declared.engine.errors.EngineFault.TheVariants.{Memory};
 
 use crate::row::{Row, Step};
 use crate::sides::{Side, binding, letters_of};
@@ -17,7 +18,8 @@ use rec_engine::{Engine, EngineFault};
 use rec_sorts::{Letter, Meaning};
 use rx_term::{Term, TermBank};
 
-/// The step that gives a part of the tree at a place: the last one of these is pushed first.
+/// Returns the operation that pushes a part of the tree at index `at`. The last of these operations
+/// is added first, and removes the tree.
 fn giving(value: Term, at: usize, pushed: bool) -> Step
     ensures { result ≡ (if pushed then step.Give value else step.GiveLast value at) }
 {
@@ -29,8 +31,8 @@ fn giving(value: Term, at: usize, pushed: bool) -> Step
 }
 
 impl Row {
-    /// The step of a letter comes next: whether one that gives a part of the tree on top was
-    /// pushed so far.
+    /// Adds the operation of a postfix item. `pushed`, and the result, is whether an operation that
+    /// pushes a part of the tree on top has been added.
     fn push_letter<B: TermBank>(
         &mut self,
         engine: &Engine<B>,
@@ -45,6 +47,7 @@ impl Row {
         ensures low { self.new.low ≡ self.old.low }
         ensures pushed { IfOk result (PushesLetter engine.now.spec (B.store engine.now.bank)
             self.old self.new rule letter bind.now pushed) }
+        ensures memory { IfErr result (λ e. e ≡ Memory) }
     {
         match letter.meaning {
             Meaning::Variable(variable) => {
@@ -64,8 +67,9 @@ impl Row {
         }
     }
 
-    /// The steps of a side of a rule come next. The rule matches the tree on top with these values,
-    /// and that tree is no value any more: it goes at once where none of its parts is given.
+    /// Adds the operations of a side of a rule. The rule matches the tree on top with these values.
+    /// This tree does not count as a value any more; it is removed at once if none of its parts is
+    /// pushed.
     pub(crate) fn spread<B: TermBank>(
         &mut self,
         engine: &Engine<B>,
@@ -84,6 +88,7 @@ impl Row {
         ensures steps { OnOk result (take (length self.old.steps.items) self.new.steps.items
             ≡ self.old.steps.items) }
         ensures low { OnOk result (Lowers self.old self.new) }
+        ensures memory { IfErr result (λ e. e ≡ Memory) }
     {
         let letters = letters_of(engine.checked(), rule, side);
         let mut pushed = false;

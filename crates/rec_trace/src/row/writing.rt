@@ -1,6 +1,6 @@
-//! What a row writes down: symbols are applied, and none is called.
+//! Builds the tree of a row: symbols are applied, and none is called.
 
-ghost use Rattle.std.specs.Prelude.{◌≡◌, ◌+◌, IfOk, OnOk, Some, [], length, true, vec_len};
+ghost use Rattle.std.specs.Prelude.{◌≡◌, ◌+◌, IfOk, OnOk, Some, [], length, true, vec_len, IfErr};
 ghost use Rattle.rx_term.specs.Store.{tree_at};
 ghost use Rattle.rx_term.specs.Steps.{Keeps};
 ghost use Rattle.rec_sorts.specs.Evaluation.{Done};
@@ -8,6 +8,8 @@ ghost use Rattle.rec_engine.specs.Engine.{SameEngine};
 ghost use Rattle.rec_trace.specs.Inner.Turns.{CanTurn, Moves};
 ghost use Rattle.rec_trace.specs.Rows.{IsRow, moves_in, stack_in};
 ghost use Rattle.rec_trace.specs.States.{Fits, written};
+ghost use Rattle.rec_engine.specs.declared.engine.errors.EngineFault.TheVariants.{Memory};
+ghost use Rattle.rec_trace.specs.Faults.{RoomOnlyIfFull};
 
 use crate::row::{Row, Step};
 use rec_engine::{Engine, EngineFault};
@@ -15,10 +17,11 @@ use rx_term::{Term, TermBank};
 use std::alloc::Global;
 
 impl Row {
-    /// The same row.
+    /// Returns a copy of the row.
     pub(crate) fn copy(&self, alloc: Global) -> Result<Row, EngineFault>
         ensures steps { IfOk result (λ r. r.steps.items ≡ self.now.steps.items) }
         ensures values { IfOk result (λ r. r.values.items ≡ self.now.values.items) }
+        ensures memory { IfErr result (λ e. e ≡ Memory) }
     {
         let Ok(steps) = Vec::from_slice(alloc, &self.steps) else {
             return Err(EngineFault::Memory);
@@ -33,7 +36,7 @@ impl Row {
         }
     }
 
-    /// The next step is made.
+    /// Executes the next operation, which applies a symbol and does not call it.
     fn write_step<B: TermBank>(&mut self, engine: &mut Engine<B>) -> Result<(), EngineFault>
         requires row { IsRow engine.old.spec (B.store engine.old.bank) self.old }
         requires can { CanTurn (moves_in engine.old.spec (B.store engine.old.bank) self.old)
@@ -47,6 +50,7 @@ impl Row {
             (stack_in (B.store engine.old.bank) self.old)
             (moves_in engine.old.spec (B.store engine.new.bank) self.new)
             (stack_in (B.store engine.new.bank) self.new) true) }
+        ensures room { RoomOnlyIfFull (B.store engine.new.bank) engine.new.memo result }
     {
         let Some(step) = self.steps.pop() else {
             unreachable!()
@@ -58,7 +62,7 @@ impl Row {
         }
     }
 
-    /// All steps are made: the tree that they write down.
+    /// Executes all operations without a call, and returns the tree that they build.
     pub(crate) fn write<B: TermBank>(&mut self, engine: &mut Engine<B>) -> Result<Term, EngineFault>
         requires row { IsRow engine.old.spec (B.store engine.old.bank) self.old }
         requires fits { Fits (moves_in engine.old.spec (B.store engine.old.bank) self.old)
@@ -68,6 +72,7 @@ impl Row {
         ensures written { IfOk result (λ t. tree_at (B.store engine.new.bank) t
             ≡ Some (written (moves_in engine.old.spec (B.store engine.old.bank) self.old)
             (stack_in (B.store engine.old.bank) self.old))) }
+        ensures room { RoomOnlyIfFull (B.store engine.new.bank) engine.new.memo result }
     {
         'steps: while self.steps.len() > 0 {
             self.write_step(engine)?;

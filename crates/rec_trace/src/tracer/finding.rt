@@ -1,6 +1,6 @@
-//! Which rule fires: rules that match, and their conditions.
+//! Finds the rule that applies: matching rules, and their conditions.
 
-ghost use Rattle.std.specs.Prelude.{◌≡◌, ◌<◌, ◌∷◌, ◌+◌, [], ℕ, true, IfOk, Some, drop, get_or};
+ghost use Rattle.std.specs.Prelude.{◌≡◌, ◌<◌, ◌∷◌, ◌+◌, [], ℕ, true, IfOk, Some, drop, get_or, IfErr};
 ghost use Rattle.std.specs.Prelude.{◌-◌, length, reverse, slice_get};
 ghost use Rattle.std.specs.Bool.{beq};
 ghost use Rattle.rx_term.specs.Tree.{list_of, none, tree_eq};
@@ -15,6 +15,8 @@ ghost use Rattle.rec_trace.specs.Inner.Turns.{HasCondition, IsBound, number_of};
 ghost use Rattle.rec_trace.specs.Tracing.{AreAnswered, IsFound, IsInOrder, moves_at, on_top};
 ghost use Rattle.rec_trace.specs.Tracing.{stack_at};
 ghost use Rattle.rec_trace.specs.declared.tracer.Found.TheVariants as found;
+ghost use Rattle.rec_engine.specs.declared.engine.errors.EngineFault.TheVariants.{Memory};
+ghost use Rattle.rec_trace.specs.Faults.{RoomOnlyIfFull};
 
 use crate::sides::Side;
 use crate::tracer::{Found, Tracer};
@@ -22,8 +24,8 @@ use rec_engine::{Engine, EngineFault};
 use rx_term::TermBank;
 
 impl Tracer {
-    /// Whether a condition of a rule that matches the tree on top holds; none, where more steps
-    /// are needed than are left.
+    /// Evaluates a condition of a rule that matches the tree on top. Returns whether it holds, or
+    /// `None` if more steps are needed than are left.
     fn condition<B: TermBank>(
         &mut self,
         engine: &mut Engine<B>,
@@ -43,6 +45,7 @@ impl Tracer {
             → AreAnswered engine.old.spec (B.store engine.old.bank) (B.store engine.new.bank)
             self.old self.new (Holds engine.old.spec self.old.left s
             (get_or r.conditions i no_condition ∷ [])) answer) }
+        ensures room { RoomOnlyIfFull (B.store engine.new.bank) engine.new.memo result }
     {
         let redex = self.row.top();
         if !self.side(engine, rule, Side::Left(i), redex)? {
@@ -55,7 +58,8 @@ impl Tracer {
         Ok(Some(self.compare(engine, rule, i)))
     }
 
-    /// Whether the two values on top are as a condition of a rule wants them; they go.
+    /// Removes the two values on top. Returns whether they are equal or different as the condition
+    /// demands.
     fn compare<B: TermBank>(&mut self, engine: &Engine<B>, rule: u32, i: usize) -> bool
         requires order { IsInOrder engine.now.spec (B.store engine.now.bank) self.old }
         requires two { 1 < reach_of self.old.row }
@@ -86,8 +90,8 @@ impl Tracer {
         same == equal
     }
 
-    /// Whether the conditions of a rule that matches the tree on top hold; none, where more steps
-    /// are needed than are left.
+    /// Evaluates the conditions of a rule that matches the tree on top. Returns whether they hold,
+    /// or `None` if more steps are needed than are left.
     fn conditions<B: TermBank>(
         &mut self,
         engine: &mut Engine<B>,
@@ -105,6 +109,7 @@ impl Tracer {
             (on_top (stack_at (B.store engine.old.bank) self.old)) r s
             → AreAnswered engine.old.spec (B.store engine.old.bank) (B.store engine.new.bank)
             self.old self.new (Holds engine.old.spec self.old.left s r.conditions) answer) }
+        ensures room { RoomOnlyIfFull (B.store engine.new.bank) engine.new.memo result }
     {
         let count = engine.checked().rules()[rule as usize].conditions.len();
         for i in 0..count {
@@ -117,8 +122,9 @@ impl Tracer {
         Ok(Some(true))
     }
 
-    /// Whether the conditions of a rule that matches the tree on top with these values hold; none,
-    /// where more steps are needed than are left. Where they hold, these are its values still.
+    /// Evaluates the conditions of a rule that matches the tree on top with the values found last.
+    /// Returns whether they hold, or `None` if more steps are needed than are left. If they hold,
+    /// these are still the values.
     fn try_rule<B: TermBank>(
         &mut self,
         engine: &mut Engine<B>,
@@ -140,12 +146,13 @@ impl Tracer {
             self.old self.new (Holds engine.old.spec self.old.left s r.conditions) answer) }
         ensures bound { IfOk result (λ answer. answer ≡ Some true
             → IsBound engine.old.spec (B.store engine.new.bank) self.new rule self.new.bind.items) }
+        ensures room { RoomOnlyIfFull (B.store engine.new.bank) engine.new.memo result }
     {
         if engine.checked().rules()[rule as usize].conditions.len() == 0 {
             return Ok(Some(true));
         }
         match self.conditions(engine, rule)? {
-            // what was evaluated may have given back the values: they are asked for once more
+            // The evaluation may have freed the values, so they are found once more.
             Some(true) => {
                 let _same = self.next_rule(engine, rule)?;
                 Ok(Some(true))
@@ -155,7 +162,7 @@ impl Tracer {
         }
     }
 
-    /// The first rule at or after a number that matches the tree on top; its values are found.
+    /// Finds the first rule from number `from` on that matches the tree on top, and its values.
     pub(super) fn next_rule<B: TermBank>(
         &mut self,
         engine: &Engine<B>,
@@ -170,6 +177,7 @@ impl Tracer {
             (on_top (stack_at (B.store engine.now.bank) self.old))) ≡ found) }
         ensures bound { IfOk result (λ found. (i : ℕ) → found ≡ Some i
             → IsBound engine.now.spec (B.store engine.now.bank) self.new i self.new.bind.items) }
+        ensures memory { IfErr result (λ e. e ≡ Memory) }
     {
         let redex = self.row.top();
         let found = engine
@@ -181,7 +189,7 @@ impl Tracer {
         }
     }
 
-    /// The rule that fires at the tree on top, and its values.
+    /// Finds the rule that applies to the tree on top, and its values.
     pub(super) fn find<B: TermBank>(&mut self, engine: &mut Engine<B>) -> Result<Found, EngineFault>
         requires order { IsInOrder engine.old.spec (B.store engine.old.bank) self.old }
         requires some { 0 < reach_of self.old.row }
@@ -194,6 +202,7 @@ impl Tracer {
             (on_top (stack_at (B.store engine.old.bank) self.old)))) }
         ensures bound { IfOk result (λ f. (i : ℕ) → f ≡ found.Rule i
             → IsBound engine.old.spec (B.store engine.new.bank) self.new i self.new.bind.items) }
+        ensures room { RoomOnlyIfFull (B.store engine.new.bank) engine.new.memo result }
     {
         let mut from = 0;
         'rules: while let Some(rule) = self.next_rule(engine, from)? {
@@ -210,7 +219,7 @@ impl Tracer {
         Ok(Found::Nothing)
     }
 
-    /// The number of the rule behind one.
+    /// Returns the number of the rule after a rule.
     fn after<B: TermBank>(&self, engine: &Engine<B>, rule: u32) -> u32
         requires { rule < length engine.now.spec.rules }
         ensures { result ≡ rule + 1 }

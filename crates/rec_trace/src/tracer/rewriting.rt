@@ -1,4 +1,4 @@
-//! What a redex becomes, and the whole term, which are written down apart from a tracer's own row.
+//! Builds contracta and whole terms, in rows other than the tracer's own.
 
 ghost use Rattle.std.specs.Prelude.{◌≡◌, [], IfOk, Some};
 ghost use Rattle.rx_term.specs.Tree.{Tree};
@@ -7,6 +7,7 @@ ghost use Rattle.rx_term.specs.Steps.{Keeps};
 ghost use Rattle.rec_engine.specs.Engine.{SameEngine};
 ghost use Rattle.rec_trace.specs.Lists.{Stays};
 ghost use Rattle.rec_trace.specs.Tracing.{Rewrites, Stands, rest_of, whole_of};
+ghost use Rattle.rec_trace.specs.Faults.{RoomOnlyIfFull};
 
 use crate::row::Row;
 use crate::sides::Side;
@@ -15,16 +16,20 @@ use rec_engine::{Engine, EngineFault};
 use rx_term::{Term, TermBank};
 use std::alloc::Global;
 
-/// A redex, and what it becomes.
+/// A redex, and the contractum that replaces it.
 #[derive(Clone, Copy, Drop)]
 pub struct Rewrite {
+    /// The subterm to which a rule applies.
     pub redex: Term,
+    /// The instance of the rule's right-hand side.
     pub contractum: Term,
 }
 
 impl Tracer {
-    /// What a redex becomes by the rule of a number, both of which the engine's next call need not
-    /// keep. It is written down anew each time.
+    /// Builds the contractum of a redex by the rule with this number. The engine's next call may
+    /// free both terms. Each call builds the contractum anew.
+    ///
+    /// Errors are those of [`Tracer::next_step`].
     pub fn rewrite<B: TermBank>(
         &mut self,
         alloc: Global,
@@ -50,6 +55,7 @@ impl Tracer {
         ensures contractum { IfOk result (λ made. (u v : Tree)
             → tree_at (B.store engine.old.bank) redex ≡ Some u → Rewrites engine.old.spec rule u v
             → tree_at (B.store engine.new.bank) made.contractum ≡ Some v) }
+        ensures room { RoomOnlyIfFull (B.store engine.new.bank) engine.new.memo result }
     {
         // the list keeps the redex, as it keeps all values
         let count = self.row.values.len();
@@ -59,7 +65,7 @@ impl Tracer {
         Ok(Rewrite { redex, contractum })
     }
 
-    /// What a redex becomes by the rule of a number.
+    /// Builds the contractum of a redex by the rule with this number.
     fn write_contractum<B: TermBank>(
         &mut self,
         alloc: Global,
@@ -78,6 +84,7 @@ impl Tracer {
         ensures contractum { IfOk result (λ t. (u v : Tree)
             → tree_at (B.store engine.old.bank) redex ≡ Some u → Rewrites engine.old.spec rule u v
             → tree_at (B.store engine.new.bank) t ≡ Some v) }
+        ensures room { RoomOnlyIfFull (B.store engine.new.bank) engine.new.memo result }
     {
         let mut apart = Row::of_steps(alloc, Vec::new(alloc));
         apart.give(redex)?;
@@ -92,7 +99,9 @@ impl Tracer {
         apart.write(engine)
     }
 
-    /// The whole term, which the engine's next call need not keep. It is made anew each time.
+    /// Builds the whole term. The engine's next call may free it. Each call builds it anew.
+    ///
+    /// Errors are those of [`Tracer::next_step`].
     pub fn whole<B: TermBank>(
         &mut self,
         alloc: Global,
@@ -108,6 +117,7 @@ impl Tracer {
             ≡ rest_of engine.old.spec (B.store engine.old.bank) self.old }
         ensures whole { IfOk result (λ t. tree_at (B.store engine.new.bank) t
             ≡ Some (whole_of engine.old.spec (B.store engine.old.bank) self.old)) }
+        ensures room { RoomOnlyIfFull (B.store engine.new.bank) engine.new.memo result }
     {
         let count = self.row.values.len();
         self.saved.save_all(engine, &mut self.row, count)?;

@@ -1,4 +1,4 @@
-//! Steps in which symbols are called: sides of conditions are evaluated.
+//! Executes operations with calls, to evaluate the sides of conditions.
 
 ghost use Rattle.std.specs.Prelude.{◌≡◌, ◌≤◌, ◌+◌, ◌-◌, ◌∷◌, None, IfOk, OnOk, length, reverse};
 ghost use Rattle.std.specs.Prelude.{take, true, vec_len};
@@ -17,16 +17,17 @@ ghost use Rattle.rec_trace.specs.Rows.{AreInRow};
 ghost use Rattle.rec_trace.specs.States.{Fits};
 ghost use Rattle.rec_trace.specs.Tracing.{Gives, IsInOrder, moves_at, stack_at};
 ghost use Rattle.rec_trace.specs.declared.row.Step.TheVariants as step;
+ghost use Rattle.rec_trace.specs.Faults.{RoomOnlyIfFull};
 
 use crate::row::Step;
 use crate::sides::Side;
 use crate::tracer::Tracer;
-use rec_engine::{Engine, EngineFault, Outcome};
+use rec_engine::{Engine, EngineFault, Limits, Outcome};
 use rx_term::{Term, TermBank};
 
 impl Tracer {
-    /// A symbol is called on the values on top, which its value replaces: no, where more steps are
-    /// needed than are left.
+    /// Calls a symbol on the values on top, which its value replaces. Returns `false` if more steps
+    /// are needed than are left.
     fn evaluate<B: TermBank>(
         &mut self,
         engine: &mut Engine<B>,
@@ -45,11 +46,16 @@ impl Tracer {
         ensures comes { IfOk result (λ more. HasCalled engine.old.spec (B.store engine.old.bank)
             (B.store engine.new.bank) self.old self.new
             (name_of engine.old.spec (Symbol symbol)) count more) }
+        ensures room { RoomOnlyIfFull (B.store engine.new.bank) engine.new.memo result }
     {
         let at = self.row.values.len() - count as usize;
         self.saved.save(engine, &mut self.row, at)?;
         let values = &self.row.values[at..];
-        match engine.call(self.saved.list, symbol, values, self.left)? {
+        let limits = Limits {
+            steps: self.left,
+            depth: None,
+        };
+        match engine.call(self.saved.list, symbol, values, limits)? {
             Outcome::Limit => Ok(false),
             Outcome::Value { term, steps } => {
                 self.row.replace(at, term)?;
@@ -59,7 +65,8 @@ impl Tracer {
         }
     }
 
-    /// The next step of a row: no, where more steps are needed than are left.
+    /// Executes the next operation of a row. Returns `false` if more steps are needed than are
+    /// left.
     fn turn<B: TermBank>(&mut self, engine: &mut Engine<B>) -> Result<bool, EngineFault>
         requires order { IsInOrder engine.old.spec (B.store engine.old.bank) self.old }
         requires fits { CanTurn (moves_at engine.old.spec (B.store engine.old.bank) self.old)
@@ -71,6 +78,7 @@ impl Tracer {
             ≡ take (length self.old.row.steps.items - 1) self.old.row.steps.items) }
         ensures turns { IfOk result (λ more. Turns (Call engine.old.spec) engine.old.spec
             (B.store engine.old.bank) (B.store engine.new.bank) self.old self.new more) }
+        ensures room { RoomOnlyIfFull (B.store engine.new.bank) engine.new.memo result }
     {
         let Some(step) = self.row.steps.pop() else {
             unreachable!()
@@ -88,7 +96,8 @@ impl Tracer {
         }
     }
 
-    /// The steps above some are gone through: no, where more steps are needed than are left.
+    /// Executes the operations above the `floor` lowest. Returns `false` if more steps are needed
+    /// than are left.
     fn run<B: TermBank>(
         &mut self,
         engine: &mut Engine<B>,
@@ -106,6 +115,7 @@ impl Tracer {
             (vec_len self.old.row.steps - floor) more) }
         ensures steps { IfOk result (λ more. more ≡ true
             → self.new.row.steps.items ≡ take floor self.old.row.steps.items) }
+        ensures room { RoomOnlyIfFull (B.store engine.new.bank) engine.new.memo result }
     {
         'steps: while self.row.steps.len() > floor {
             if !self.turn(engine)? {
@@ -115,8 +125,8 @@ impl Tracer {
         Ok(true)
     }
 
-    /// A side of a rule that matches a tree is evaluated: its value comes on top. No, where more
-    /// steps are needed than are left.
+    /// Evaluates a side of a rule that matches a tree, and pushes the value. Returns `false` if
+    /// more steps are needed than are left.
     pub(super) fn side<B: TermBank>(
         &mut self,
         engine: &mut Engine<B>,
@@ -133,6 +143,7 @@ impl Tracer {
             → IsMatch engine.old.spec rule (held_tree (B.store engine.old.bank) redex) r s
             → Gives engine.old.spec (B.store engine.old.bank) (B.store engine.new.bank) self.old
             self.new (evaluate (Call engine.old.spec) self.old.left s (side_of r side)) more) }
+        ensures room { RoomOnlyIfFull (B.store engine.new.bank) engine.new.memo result }
     {
         let floor = self.row.steps.len();
         self.row.give(redex)?;

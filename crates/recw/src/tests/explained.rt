@@ -1,4 +1,4 @@
-//! What standard error says where refusals are to be explained.
+//! Tests of explanations on standard error.
 
 use crate::shelf::Shelf;
 use crate::tests::streams::run_on;
@@ -7,13 +7,13 @@ use std::alloc::Global;
 use std::process::Abort;
 use std::rt::Files;
 
-/// Texts that are refused, with line ends, a tab and a byte beyond ASCII before the place.
+/// Rejected texts, with line ends, a tab and a byte outside ASCII before the error.
 pub(crate) const REFUSED: Shelf = Shelf {
     spec: "REC-SPEC E\nSORTS N\r\nCONS a : -> N\n\tb: -> M\nEND-SPEC",
     terms: "[a,\"\u{e9}\",f(1",
 };
 
-/// What is said of the texts that are refused.
+/// The explanations of these texts.
 pub(crate) const EXPLAINED: &[Row] = &[
     (
         &["eval", "--explain", "spec"],
@@ -21,8 +21,8 @@ pub(crate) const EXPLAINED: &[Row] = &[
         1,
         "!spec S4\n",
         "recw: spec S4 at byte 41\n\
-         spec:4:8: S4: a sort that stands in CONS, OPNS or VARS is not declared; \
-         the only sort is N\n    \
+         spec:4:8: S4: undeclared sort in CONS, OPNS or VARS; \
+         the only declared sort is N\n    \
          \tb: -> M\n    \t      ^\n",
     ),
     (
@@ -31,7 +31,7 @@ pub(crate) const EXPLAINED: &[Row] = &[
         1,
         "!spec G\n",
         "recw: spec G at byte 0\n\
-         terms:1:1: G: no specification has this here; expected `REC-SPEC`\n    \
+         terms:1:1: G: syntax error in the specification; expected `REC-SPEC`\n    \
          [a,\"\\xc3\\xa9\",f(1\n    ^\n",
     ),
     (
@@ -40,7 +40,8 @@ pub(crate) const EXPLAINED: &[Row] = &[
         1,
         "!term A\n",
         "recw: term A at byte 9\n\
-         spec:1:10: A: no annotated term has this here; expected `(`, `{` or the end\n    \
+         spec:1:10: A: syntax error in the annotated term; \
+         expected `(`, `{` or the end of the text\n    \
          REC-SPEC E\n             ^\n",
     ),
     (
@@ -49,7 +50,7 @@ pub(crate) const EXPLAINED: &[Row] = &[
         1,
         "!term A\n",
         "recw: term A at byte 11\n\
-         terms:1:12: A: no annotated term has this here; the text ends here; \
+         terms:1:12: A: syntax error in the annotated term; unexpected end of text; \
          expected `)`, `{` or `,`\n    \
          [a,\"\\xc3\\xa9\",f(1\n                     ^\n",
     ),
@@ -58,14 +59,15 @@ pub(crate) const EXPLAINED: &[Row] = &[
         "",
         1,
         "!pattern P1\n",
-        "PATTERN: P1: a placeholder is not <term>, <int>, <str>, <appl>, <placeholder> or <list>\n",
+        "PATTERN:1:1: P1: placeholder other than \
+         <term>, <int>, <str>, <appl>, <placeholder>, <list>; found `<foo>`\n    <foo>\n    ^\n",
     ),
     (
         &["make", "--explain", "<int>", "[a]"],
         "",
         1,
         "!args M2\n",
-        "ARGS: M2: a given tree is not one that its placeholder matches; element 1 of the list\n",
+        "ARGS: M2: argument that does not match its placeholder; element 1 of the list\n",
     ),
     (
         &["make", "--explain", "<int", "[a]"],
@@ -73,7 +75,7 @@ pub(crate) const EXPLAINED: &[Row] = &[
         1,
         "!pattern A\n",
         "recw: pattern A at byte 4\n\
-         PATTERN:1:5: A: no annotated term has this here; the text ends here; \
+         PATTERN:1:5: A: syntax error in the annotated term; unexpected end of text; \
          expected `(`, `{` or `>`\n    \
          <int\n        ^\n",
     ),
@@ -96,16 +98,17 @@ pub(crate) const EXPLAINED: &[Row] = &[
 /// A text that ends too soon, on one line.
 const CUT_OFF: &str = "REC-SPEC E CONS z : Nat Nat";
 
-/// What is said of its end.
+/// The explanation of its end.
 const CUT_OFF_THERE: &str = "recw: spec G at byte 27\n\
-     <stdin>:1:28: G: no specification has this here; the text ends here; \
-     expected a plain word or `->`\n    \
+     <stdin>:1:28: G: syntax error in the specification; unexpected end of text; \
+     expected an identifier or `->`\n    \
      REC-SPEC E CONS z : Nat Nat\n                               ^\n";
 
-/// What is said where three cells are not enough.
-const OUT_OF_CELLS: &str = "recw: out of cells\n--cells raises the limit, which is 3 cells\n";
+/// The explanation if three cells are not enough.
+const OUT_OF_CELLS: &str =
+    "recw: out of cells\nthe store limit is 3 cells; raise it with --cells\n";
 
-/// What is said of the standard input.
+/// The explanations of texts on standard input.
 pub(crate) const INPUTS: &[Row] = &[
     (
         &["eval", "--explain"],
@@ -123,22 +126,22 @@ pub(crate) const INPUTS: &[Row] = &[
     ),
 ];
 
-/// A specification that keeps all rules.
+/// A well-formed specification.
 const KEPT: &str = "REC-SPEC Q SORTS A B CONS a : -> A b : -> B 0 : -> A OPNS f : A -> A \
      VARS X Y : A RULES f(X) -> X EVAL f(a) END-SPEC";
 
-/// What is said: of which text, by which rule, and the end of the line.
+/// The parts of an explanation: text, rule and end of the line.
 #[derive(Clone, Copy)]
 struct Saying<'a> {
-    /// What the text is called, and the place, where there is one.
+    /// The name of the text, and the location if there is one.
     text: &'a str,
-    /// The rule.
+    /// The error code.
     rule: &'a str,
-    /// The end, which alone may name an element.
+    /// The end of the line, which may name an element.
     item: &'a str,
 }
 
-/// The program said which rule is broken, and by which element.
+/// Compares an explanation with these parts.
 fn tells(rt: &impl Abort, said: &str, saying: &Saying<'_>) {
     let Saying { text, rule, item } = *saying;
     let line = said.lines().next().unwrap_or("");
@@ -147,47 +150,62 @@ fn tells(rt: &impl Abort, said: &str, saying: &Saying<'_>) {
     assert!(rt; is_named && is_counted, "{text}{rule}{item}: {said}");
 }
 
-/// Given terms, the rule that refuses them with its place, and the end of what is said of them.
-const ITEMS: [(&str, &str, &str); 14] = [
+/// Input terms, the error with its location, and the end of the explanation.
+const ITEMS: [(&str, &str, &str); 17] = [
     (
         "a",
-        "terms: T1: ",
-        "are not a list, or have annotations themselves",
+        "terms:1:1: T1: ",
+        "; write brackets around it, as in [a,b]",
     ),
     (
         "[a]{a}",
-        "terms: T1: ",
-        "are not a list, or have annotations themselves",
+        "terms:1:4: T1: ",
+        "; remove the annotations of the list",
     ),
     (
         "[f(a),3]",
         "terms:1:7: T2: ",
-        "; element 2 of the list; the integer 3",
+        "; element 2 of the list; found the integer 3",
     ),
     (
         "[f(a),f(0)]",
         "terms:1:9: T2: ",
-        "; element 2 of the list; the integer 0; did you mean `\"0\"`?",
+        "; element 2 of the list; found the integer 0; did you mean `\"0\"`?",
     ),
     (
         "[a{a},<a>]",
         "terms:1:7: T2: ",
-        "; element 2 of the list; a placeholder",
+        "; element 2 of the list; found a placeholder",
     ),
     (
         "[f(a{b}),f(b),[a],c,1]",
         "terms:1:15: T2: ",
-        "; element 3 of the list; a list",
+        "; element 3 of the list; found a list",
     ),
     (
         "[f(a{b})]",
         "terms:1:4: T3: ",
-        "; element 1 of the list; annotations of a",
+        "; element 1 of the list; found on a",
     ),
     (
         "[c,a{b},f(f(a{b})),f(a{b})]",
         "terms:1:13: T3: ",
-        "; element 3 of the list; annotations of a",
+        "; element 3 of the list; found on a",
+    ),
+    (
+        "[f(a{ }),f(a{b})]",
+        "terms:1:12: T3: ",
+        "; element 2 of the list; found on a",
+    ),
+    (
+        "[a,\"q\\n\"]",
+        "terms:1:4: T4: ",
+        "; element 2 of the list; \"q\\n\"",
+    ),
+    (
+        "[\"\\060\"(a)]",
+        "terms:1:2: T5: ",
+        "; element 1 of the list; 0 takes 0 arguments, found 1",
     ),
     (
         "[a,b,\"a\",X]",
@@ -202,7 +220,7 @@ const ITEMS: [(&str, &str, &str); 14] = [
     (
         "[f(b),f]",
         "terms:1:7: T5: ",
-        "; element 2 of the list; f takes 1 argument, here 0",
+        "; element 2 of the list; f takes 1 argument, found 0",
     ),
     (
         "[a{f(f,f),<a>,[\"]\"]},f(a,(a),f(a))]",
@@ -212,16 +230,16 @@ const ITEMS: [(&str, &str, &str); 14] = [
     (
         "[f(a),f(a,f(a))]",
         "terms:1:7: T5: ",
-        "; element 2 of the list; f takes 1 argument, here 2",
+        "; element 2 of the list; f takes 1 argument, found 2",
     ),
     (
         "[a,f(a),f(f(b)),f(b)]",
         "terms:1:13: T6: ",
-        "; element 3 of the list; expected A, found B, as argument 1 of f",
+        "; element 3 of the list; expected A, found B, in argument 1 of f",
     ),
 ];
 
-/// The program says of given terms which rule is broken, and by which part of which term.
+/// Compares the explanation of rejected input terms with its expected parts.
 fn tells_the_term(rt: &impl Abort, alloc: Global, terms: &'static str, rule: &str, item: &str) {
     let files = Shelf { spec: KEPT, terms };
     let ran = run_on(&files, alloc, &["eval", "--explain", "spec", "terms"]);
@@ -229,11 +247,11 @@ fn tells_the_term(rt: &impl Abort, alloc: Global, terms: &'static str, rule: &st
     tells(rt, ran.err(), &Saying { text, rule, item });
 }
 
-/// A pattern, arguments, the rule that refuses them, and the end of what is said of them.
+/// A pattern, arguments, the error code, and the end of the explanation.
 const ARGUMENTS: [(&str, &str, &str, &str); 6] = [
-    ("f(<int>)", "[]", "M1", "; expected 1, given 0"),
-    ("f(<int>)", "[a,b]", "M1", "; expected 1, given 2"),
-    ("a", "[a]", "M1", "; expected 0, given 1"),
+    ("f(<int>)", "[]", "M1", "; expected 1, found 0"),
+    ("f(<int>)", "[a,b]", "M1", "; expected 1, found 2"),
+    ("a", "[a]", "M1", "; expected 0, found 1"),
     (
         "f(<int>,<int>,<str>)",
         "[1,a,b]",
@@ -250,11 +268,11 @@ const ARGUMENTS: [(&str, &str, &str, &str); 6] = [
         "f(<int>)",
         "1",
         "T1",
-        "are not a list, or have annotations themselves",
+        "; write brackets around it, as in [a,b]",
     ),
 ];
 
-/// The program says of arguments which rule is broken, and by which argument.
+/// Compares the explanation of rejected arguments with its expected parts.
 fn tells_the_argument<H: Abort + Files>(
     rt: &H,
     alloc: Global,
@@ -272,7 +290,7 @@ fn tells_which_element_it_is(rt: HostRuntime) {
         tells_the_term(&rt, rt.alloc(), terms, rule, item);
     }
     for (pattern, args, rule, item) in &ARGUMENTS {
-        let text = "ARGS: ";
+        let text = "ARGS:";
         tells_the_argument(&rt, rt.alloc(), pattern, args, &Saying { text, rule, item });
     }
 }

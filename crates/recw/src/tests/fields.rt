@@ -1,19 +1,23 @@
-//! Each option reaches its field.
+//! Tests that each option sets its field.
 
 use recw_words::{Asked, EvalOptions, Request, read_words};
 use std::alloc::Global;
 use std::process::Abort;
 use std::rt::Files;
 
-/// Options, and the numbers of each of them in turn, what is said by those without a number (that
-/// steps are counted, limit lines have annotations, calls in values are told, rules are counted,
-/// and it is shown how far a term is), and how many calls may wait.
-const OPTIONS: [(&[&str], [u64; 4], [bool; 5], Option<u32>); 4] = [
+/// The call-depth limit and the largest number of bytes of a result, if there are any.
+type Bounds = (Option<u32>, Option<u64>);
+
+/// Options; the expected numbers; the expected flags for step counts, annotations of limit lines,
+/// stuck calls, profile and progress; and the call-depth limit and the bytes of a result.
+type Row = (&'static [&'static str], [u64; 4], [bool; 5], Bounds);
+
+const OPTIONS: [Row; 4] = [
     (
         &["eval"],
         [1_000_000, 16_777_216, 65_536, 262_144],
         [false, false, false, false, false],
-        None,
+        (None, None),
     ),
     (
         &[
@@ -29,12 +33,14 @@ const OPTIONS: [(&[&str], [u64; 4], [bool; 5], Option<u32>); 4] = [
             "--count",
             "--depth",
             "15",
+            "--bytes",
+            "16",
             "--profile",
             "--progress",
         ],
         [11, 12, 13, 14],
         [true, false, false, true, true],
-        Some(15),
+        (Some(15), Some(16)),
     ),
     (
         &[
@@ -47,28 +53,23 @@ const OPTIONS: [(&[&str], [u64; 4], [bool; 5], Option<u32>); 4] = [
             "--limit-annotations",
             "--steps=21",
             "--depth=0",
+            "--bytes=0",
         ],
         [21, 22, 23, 24],
         [false, true, false, false, false],
-        Some(0),
+        (Some(0), Some(0)),
     ),
     (
         &["eval", "--stuck"],
         [1_000_000, 16_777_216, 65_536, 262_144],
         [false, false, true, false, false],
-        None,
+        (None, None),
     ),
 ];
 
-/// Each option reaches its own field.
-fn reaches_its_field<H: Abort + Files>(
-    rt: &H,
-    alloc: Global,
-    words: &[&str],
-    numbers: [u64; 4],
-    flags: [bool; 5],
-    calls: Option<u32>,
-) {
+/// Compares the fields of a request with the expected ones.
+fn reaches_its_field<H: Abort + Files>(rt: &H, alloc: Global, row: &Row) {
+    let (words, numbers, flags, bounds) = *row;
     let mut none = Vec::new(alloc);
     let mut told = Vec::new(alloc);
     let asked = read_words(alloc, words, &mut none, &mut told);
@@ -84,6 +85,7 @@ fn reaches_its_field<H: Abort + Files>(
         memo,
         reclaim,
         count,
+        bytes,
         limit_annotations,
         depth,
         stuck,
@@ -93,14 +95,14 @@ fn reaches_its_field<H: Abort + Files>(
     let found = [steps, u64::from(cells), u64::from(memo), u64::from(reclaim)];
     let said = [count, limit_annotations, stuck, profile, progress];
     assert!(rt;
-        found == numbers && said == flags && depth == calls,
+        found == numbers && said == flags && (depth, bytes) == bounds,
         "{words:?}"
     );
 }
 
 #[test]
 fn options_reach_their_fields(rt: HostRuntime) {
-    for (words, numbers, flags, calls) in &OPTIONS {
-        reaches_its_field(&rt, rt.alloc(), words, *numbers, *flags, *calls);
+    for row in &OPTIONS {
+        reaches_its_field(&rt, rt.alloc(), row);
     }
 }

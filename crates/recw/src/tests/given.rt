@@ -1,9 +1,9 @@
-//! Given terms among the words, and the standard input by its name.
+//! Tests of input terms given with `-e`, and of standard input by its name `-`.
 
 use crate::shelf::Shelf;
 use crate::tests::{ADDITION, Row};
 
-/// Words that give terms to a specification on the standard input.
+/// Terms given with `-e`, for a specification on standard input.
 pub(crate) const WORDS: &[Row] = &[
     (
         &["eval", "-e", "plus(z,s(z))"],
@@ -33,6 +33,41 @@ pub(crate) const WORDS: &[Row] = &[
         ADDITION,
         0,
         "!limit 2\nz{id(1)}\n!limit 2{id(2),3}\n",
+        "",
+    ),
+    // The annotations count as bytes of a result, the steps do not.
+    (
+        &[
+            "eval",
+            "--count",
+            "--bytes",
+            "8",
+            "-e",
+            "z{id(1)}",
+            "-e",
+            "s(z){id}",
+            "-e",
+            "s(z){a,b}",
+        ],
+        ADDITION,
+        0,
+        "!bytes 8\nz{id(1)}\t0\ns(z){id}\t0\n!bytes 8\n",
+        "",
+    ),
+    (
+        &[
+            "eval",
+            "--limit-annotations",
+            "--bytes=0",
+            "--steps=2",
+            "-e",
+            "plus(z,z){id(1)}",
+            "-e",
+            "plus(s(s(z)),z){id(2),3}",
+        ],
+        ADDITION,
+        0,
+        "!limit 2\n!bytes 0{id(1)}\n!limit 2{id(2),3}\n",
         "",
     ),
     (
@@ -77,7 +112,7 @@ pub(crate) const WORDS: &[Row] = &[
         1,
         "!terms A\n",
         "recw: terms A at byte 3\n\
-         -e 2:1:4: A: no annotated term has this here; the text ends here; \
+         -e 2:1:4: A: syntax error in the annotated term; unexpected end of text; \
          expected `(`, `)`, `{` or `,`\n    s(z\n       ^\n",
     ),
     (
@@ -85,8 +120,8 @@ pub(crate) const WORDS: &[Row] = &[
         ADDITION,
         1,
         "!terms T5\n",
-        "-e 2:1:1: T5: a node has another number of arguments than declared; \
-         s takes 1 argument, here 2\n    s(z,z)\n    ^\n",
+        "-e 2:1:1: T5: wrong number of arguments; \
+         s takes 1 argument, found 2\n    s(z,z)\n    ^\n",
     ),
     (&["aterm", "-"], "f ( a )", 0, "f(a)\n", ""),
     (&["share", "-"], "a", 0, "a\ncells 2\n", ""),
@@ -106,7 +141,7 @@ pub(crate) const FILES: Shelf = Shelf {
     terms: "[s(z",
 };
 
-/// Words that give terms to a specification in a file, where the standard input may not be asked.
+/// Terms given with `-e`, for a specification in a file. Standard input must not be read.
 pub(crate) const NAMED: &[Row] = &[
     (
         &["eval", "spec", "-e", "plus(s(z),z)"],
@@ -130,7 +165,7 @@ pub(crate) const NAMED: &[Row] = &[
         1,
         "!terms A\n",
         "recw: terms A at byte 4\n\
-         terms:1:5: A: no annotated term has this here; the text ends here; \
+         terms:1:5: A: syntax error in the annotated term; unexpected end of text; \
          expected `(`, `)`, `{` or `,`\n    [s(z\n        ^\n",
     ),
 ];

@@ -1,35 +1,35 @@
-//! What standard error says of the names that a refusal is about.
+//! Tests of the names in explanations.
 
 use crate::tests::run;
 use std::alloc::Global;
 use std::process::Abort;
 use std::rt::Files;
 
-/// Specifications, and what is said of each: to the end of a line.
-const NAMES: [(&str, &str); 14] = [
+/// Specifications, and the explanation of each up to the end of a line.
+const NAMES: [(&str, &str); 17] = [
     (
         "REC-SPEC E\nSORTS A B\n A\nEND-SPEC",
-        "<stdin>:3:2: S1: a sort is declared twice; A is declared in line 2\n",
+        "<stdin>:3:2: S1: duplicate sort; A is already declared on line 2\n",
     ),
     (
         "REC-SPEC E SORTS A\nCONS a : -> A\nOPNS b : -> A\n a : A -> A END-SPEC",
-        "; a is declared in line 2\n",
+        "; a is already declared on line 2\n",
     ),
     (
         "REC-SPEC E SORTS A B VARS X Y\n : A\nZ Y : B END-SPEC",
-        "; Y is declared in line 1\n",
+        "; Y is already declared on line 1\n",
     ),
     (
         "REC-SPEC E SORTS A\nCONS a : -> A VARS a : A END-SPEC",
-        "; the symbol a is declared in line 2\n",
+        "; the symbol a is already declared on line 2\n",
     ),
     (
         "REC-SPEC E SORTS A B CONS a : C -> A END-SPEC",
-        "; the sorts are A, B\n",
+        "; declared sorts are A, B\n",
     ),
     (
         "REC-SPEC E CONS a : -> A END-SPEC",
-        "; there are no sorts\n",
+        "; no sorts are declared\n",
     ),
     (
         "REC-SPEC E SORTS A CONS zero : -> A OPNS plus : A A -> A EVAL pluss(zero,zero) END-SPEC",
@@ -37,15 +37,27 @@ const NAMES: [(&str, &str); 14] = [
     ),
     (
         "REC-SPEC E SORTS A CONS a : -> A EVAL b END-SPEC",
-        "nor a variable\n",
+        "; declare it in CONS or OPNS\n",
+    ),
+    (
+        "REC-SPEC E SORTS A CONS a : -> A RULES f(a) -> a END-SPEC",
+        "; declare it in OPNS\n",
+    ),
+    (
+        "REC-SPEC E SORTS A CONS a : -> A OPNS f : A -> A RULES f(X) -> a END-SPEC",
+        "; declare it in VARS, CONS or OPNS\n",
+    ),
+    (
+        "REC-SPEC E SORTS A CONS a : -> A OPNS f : A -> A RULES f(a) -> long(a) END-SPEC",
+        "; declare it in CONS or OPNS\n",
     ),
     (
         "REC-SPEC E SORTS A CONS z : -> A OPNS plus : A A -> A EVAL plus(z) END-SPEC",
-        "; plus takes 2 arguments, here 1\n",
+        "; plus takes 2 arguments, found 1\n",
     ),
     (
         "REC-SPEC E SORTS A CONS z : -> A s : A -> A EVAL s(z,s(z),z) END-SPEC",
-        "; s takes 1 argument, here 3\n",
+        "; s takes 1 argument, found 3\n",
     ),
     (
         "REC-SPEC E SORTS A CONS z : -> A OPNS f : A -> A VARS X : A RULES f(X) -> X(z) END-SPEC",
@@ -54,12 +66,12 @@ const NAMES: [(&str, &str); 14] = [
     (
         "REC-SPEC E SORTS Elt List CONS e : -> Elt nil : -> List cons : Elt List -> List \
          EVAL cons(e,cons(e,nil)) cons(e,e) END-SPEC",
-        "; expected List, found Elt, as argument 2 of cons\n",
+        "; expected List, found Elt, in argument 2 of cons\n",
     ),
     (
         "REC-SPEC E SORTS A B CONS a : -> A b : -> B OPNS f : A B A -> A VARS X : B \
          RULES f(f(a,X,a),b,a) -> a f(a,b,f(a,X,X)) -> a END-SPEC",
-        "; expected A, found B, as argument 3 of f\n",
+        "; expected A, found B, in argument 3 of f\n",
     ),
     (
         "REC-SPEC E SORTS A B CONS a : -> A b : -> B OPNS f : A -> A VARS X : A \
@@ -68,7 +80,8 @@ const NAMES: [(&str, &str); 14] = [
     ),
 ];
 
-/// Specifications with a word that is misspelt, or looks so, and what is said of it.
+/// Specifications with a misspelt reserved word, or with one that seems misspelt, and the
+/// suggestion.
 const MISSPELT: [(&str, &str); 8] = [
     (
         "REC-SPEC E SORTS A CONS a : -> A OPNS f : A -> A VARS X : A\nRULE f(X) -> X\nEVAL f(a) \
@@ -107,20 +120,35 @@ const MISSPELT: [(&str, &str); 8] = [
     ),
 ];
 
-/// Texts that leave their grammar at a place that their looks don't tell, and what is said of it.
-const HERE: [(&str, &str); 5] = [
+/// Texts with a syntax error at an offset without a visible character, and the explanation.
+const HERE: [(&str, &str); 8] = [
     (
         "",
-        "<stdin>:1:1: G: no specification has this here; the text is empty; expected `REC-SPEC`\n",
+        "<stdin>:1:1: G: syntax error in the specification; the text is empty; \
+         expected `REC-SPEC`\n",
     ),
     (
         "\u{feff}REC-SPEC E END-SPEC",
-        "<stdin>:1:1: G: no specification has this here; a byte order mark stands here; \
+        "<stdin>:1:1: G: syntax error in the specification; unexpected byte order mark; \
          expected `REC-SPEC`\n",
     ),
     (
         "REC-SPEC E SORTS A\r\nCONS a -> A\r\nEND-SPEC\r\n",
-        "<stdin>:2:8: G: no specification has this here; expected `:`\n    CONS a -> A\n           ^\n",
+        "<stdin>:2:8: G: syntax error in the specification; \
+         expected `:`\n    CONS a -> A\n           ^\n",
+    ),
+    (
+        "REC-SPEC->E END-SPEC",
+        "<stdin>:1:9: G: syntax error in the specification; expected an identifier\n",
+    ),
+    (
+        "REC-SPEC E SORTS-->A END-SPEC",
+        "<stdin>:1:17: G: syntax error in the specification; expected an identifier, `CONS`",
+    ),
+    (
+        "REC-SPEC E SORTS\r",
+        "; unexpected end of text; expected an identifier, `CONS`, `OPNS`, `VARS`, `RULES`, \
+         `EVAL` or `END-SPEC`\n    REC-SPEC E SORTS\n                    ^\n",
     ),
     (
         "REC-SPEC E SORTS A CONS a : -> A cons : A -> A EVAL cons(a END-SPEC",
@@ -128,11 +156,11 @@ const HERE: [(&str, &str); 5] = [
     ),
     (
         "REC-SPEC E SORTS A OPNS f : A -> A VARS X : A RULES f(X) X END-SPEC",
-        "<stdin>:1:58: G: no specification has this here; expected `->`\n",
+        "<stdin>:1:58: G: syntax error in the specification; expected `->`\n",
     ),
 ];
 
-/// The program says this of a specification on the standard input, and of nothing else.
+/// Compares the explanation of a specification on standard input.
 fn says<H: Abort + Files>(rt: &H, alloc: Global, text: &str, said: &str) {
     let ran = run(rt, alloc, &["eval", "--explain"], text);
     assert!(rt; ran.err().contains(said), "{said}: {}", ran.err());
@@ -148,7 +176,7 @@ fn names_what_a_refusal_is_about(rt: HostRuntime) {
     }
 }
 
-/// The program asks of no word whether another was meant.
+/// Checks that an explanation suggests no word.
 fn asks_of_none<H: Abort + Files>(rt: &H, alloc: Global, text: &str) {
     let ran = run(rt, alloc, &["eval", "--explain"], text);
     assert!(rt; !ran.err().contains("did you mean"), "{}", ran.err());

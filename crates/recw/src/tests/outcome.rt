@@ -1,4 +1,4 @@
-//! Statuses that tell what came of a run.
+//! Tests of exit statuses that depend on the results.
 
 use crate::tests::{ADDITION, Row};
 
@@ -7,7 +7,7 @@ pub(crate) const STUCK: &str =
     "REC-SPEC S SORTS N CONS z : -> N s : N -> N p : N N -> N OPNS f : N -> N \
      VARS X : N RULES f(s(X)) -> X if X -><- s(z) EVAL f(z) END-SPEC";
 
-/// Matches and evaluations whose status tells more.
+/// Matches and evaluations with such statuses.
 pub(crate) const STATUSES: &[Row] = &[
     (&["match", "--test", "f(<int>)"], "f(1)", 0, "yes\n1\n", ""),
     (&["match", "f(<int>)", "--test"], "f(a)", 1, "no\n", ""),
@@ -42,6 +42,20 @@ pub(crate) const STATUSES: &[Row] = &[
         "",
     ),
     (
+        &["eval", "--limit-status", "--bytes", "10"],
+        ADDITION,
+        0,
+        "s(s(s(z)))\n",
+        "",
+    ),
+    (
+        &["eval", "--limit-status", "--bytes", "9", "-e", "z{1}"],
+        ADDITION,
+        5,
+        "!bytes 9\nz{1}\n",
+        "",
+    ),
+    (
         &["eval", "--limit-status"],
         "REC-SPEC E SORTS : END-SPEC",
         1,
@@ -71,7 +85,7 @@ pub(crate) const STATUSES: &[Row] = &[
         "",
         "recw: out of cells\n",
     ),
-    // The term waits for its call, and each right side but the last for the call in it.
+    // One frame for the term, and one for the call in each right-hand side but the last.
     (
         &["eval", "--memo", "0", "--depth", "3"],
         ADDITION,
@@ -91,6 +105,6 @@ pub(crate) const STATUSES: &[Row] = &[
         ADDITION,
         3,
         "",
-        "recw: too deep\n--depth raises the limit, which is 0 calls\n",
+        "recw: too deep\nthe call-depth limit is 0 frames; raise it with --depth\n",
     ),
 ];

@@ -1,12 +1,12 @@
-//! Words that the command line does not have.
+//! Tests of usage errors.
 
 use crate::tests::{ADDITION, run};
 use std::alloc::Global;
 use std::process::Abort;
 use std::rt::Files;
 
-/// Words that the command line does not have.
-const WRONG_WORDS: [&[&str]; 60] = [
+/// Arguments that are usage errors.
+const WRONG_WORDS: [&[&str]; 72] = [
     &["eval", "--cells", "0"],
     &["eval", "--cells", "1073741825"],
     &["eval", "--reclaim", "0"],
@@ -16,6 +16,10 @@ const WRONG_WORDS: [&[&str]; 60] = [
     &["eval", "--depth", "-1"],
     &["serve", "--depth", "x", "a"],
     &["aterm", "--depth", "1"],
+    &["eval", "--bytes", "1000000000000000001"],
+    &["eval", "--bytes", "-1"],
+    &["serve", "--bytes", "x", "a"],
+    &["trace", "-", "--bytes", "1"],
     &["eval", "--steps", "3", "--steps", "4"],
     &["eval", "--count", "--count"],
     &["eval", "--steps", "1000000000000000001"],
@@ -67,9 +71,17 @@ const WRONG_WORDS: [&[&str]; 60] = [
     &["eval", "--whole"],
     &["share", "--nodes", "5"],
     &["share", "--dot", "--nodes", "0"],
+    &["check", "--format", "-"],
+    &["check", "--format", "xml", "-"],
+    &["check", "--format", "json", "--format", "json", "-"],
+    &["check", "--join", "a", "--format", "json", "b"],
+    &["check", "--format", "gnu", "--join", "a", "b"],
+    &["check", "--explain", "--join", "a", "b"],
+    &["uses", "--format", "json"],
+    &["help", "S12"],
 ];
 
-/// The program refuses these words, and writes nothing on the standard output.
+/// Checks that these arguments are a usage error, and that nothing is written on standard output.
 fn refuses<H: Abort + Files>(rt: &H, alloc: Global, words: &[&str]) {
     let ran = run(rt, alloc, words, ADDITION);
     let is_refused = ran.status == 2 && ran.out().is_empty() && ran.err().starts_with("error: ");

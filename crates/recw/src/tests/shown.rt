@@ -1,4 +1,4 @@
-//! What is told to somebody who reads standard error, and when lines are seen.
+//! Tests of messages on a terminal, and of early flushes.
 
 use crate::tests::{ADDITION, run_before};
 use recw_words::{Console, Prompt};
@@ -9,7 +9,7 @@ use std::process::Abort;
 use std::rt::Files;
 use std::time::{Clock, Duration};
 
-/// What somebody is told who did not ask for it.
+/// On a terminal, errors are explained without `--explain`.
 fn explains_unasked<H: Abort + Files>(rt: &H, alloc: Global) {
     let mut input = "REC-SPEC E".as_bytes();
     let ran = run_before(rt, alloc, &["eval"], &mut input, true);
@@ -17,7 +17,7 @@ fn explains_unasked<H: Abort + Files>(rt: &H, alloc: Global) {
     assert!(rt; ran.err().starts_with(said), "{}", ran.err());
 }
 
-/// What is wrong with words, without control bytes.
+/// Usage errors are shown without control bytes.
 fn shows_words<H: Abort + Files>(rt: &H, alloc: Global) {
     let word = "x\u{1b}[1m\u{9b}\u{e9}.rec";
     let mut input = ADDITION.as_bytes();
@@ -33,7 +33,7 @@ fn shows_words<H: Abort + Files>(rt: &H, alloc: Global) {
     assert!(rt; ran.err().contains(quoted), "{}", ran.err());
 }
 
-/// A path is shown without control characters, also where nobody reads it.
+/// A path is shown without control characters, on a terminal or not.
 fn shows_paths<H: Abort + Files>(rt: &H, alloc: Global) {
     let words = ["aterm", "--explain", "no\nsuch\u{7f}file"];
     let mut input = ADDITION.as_bytes();
@@ -59,10 +59,10 @@ fn shows_control_bytes(rt: HostRuntime) {
     assert!(rt; shown.as_slice() == wanted);
 }
 
-/// A writer that counts how often it is flushed.
+/// A writer that counts its flushes.
 #[derive(Drop)]
 struct Counting {
-    /// How often it was.
+    /// The number of flushes.
     flushes: u32,
 }
 
@@ -77,10 +77,10 @@ impl Write for &mut Counting {
     }
 }
 
-/// A clock that stands, or does not go.
+/// A clock that stands still, or that has no time.
 #[derive(Drop)]
 struct Standing {
-    /// Whether it tells a time.
+    /// Whether it has a time.
     is_wound: bool,
 }
 
@@ -98,7 +98,7 @@ impl Clock for Standing {
     }
 }
 
-/// Writes so many lines, each in two pieces.
+/// Writes lines, each in two pieces.
 fn write_lines<W: Write>(count: u32, out: &mut W) -> io::Result<()> {
     for _ in 0..count {
         out.write_all(b"z")?;
@@ -107,7 +107,7 @@ fn write_lines<W: Write>(count: u32, out: &mut W) -> io::Result<()> {
     Ok(())
 }
 
-/// How many lines are written, whether the clock tells a time, and how often that is flushed.
+/// The number of lines, whether the clock has a time, and the expected number of flushes.
 const LINES: [(u32, bool, u32); 4] = [
     (0, true, 0),
     (1000, true, 1000),
@@ -115,7 +115,7 @@ const LINES: [(u32, bool, u32); 4] = [
     (3000, false, 1000),
 ];
 
-/// So many lines are flushed so often.
+/// Compares the number of flushes.
 fn hands_on(rt: &impl Abort, count: u32, is_wound: bool, flushes: u32) {
     let mut counting = Counting { flushes: 0 };
     let clock = Standing { is_wound };

@@ -1,7 +1,8 @@
-//! Files that are named, and inputs and outputs that fail.
+//! Tests of named files, and of inputs and outputs that fail.
 
+use crate::program::program;
 use crate::shelf::Shelf;
-use crate::tests::{ADDITION, Ran, Row, program, run_over};
+use crate::tests::{ADDITION, Ran, Row, run_over};
 use recw_words::{Console, failed_start};
 use std::alloc::Global;
 use std::io;
@@ -9,7 +10,7 @@ use std::io::{ErrorKind, Read, Write};
 use std::process::Abort;
 use std::rt::Files;
 
-/// A reader that may not be asked.
+/// A reader that must not be used.
 #[derive(Drop)]
 struct Unread;
 
@@ -25,7 +26,7 @@ pub(crate) const FILES: Shelf = Shelf {
     terms: "[plus(z,s(z))]",
 };
 
-/// Runs on named files, and one on the standard input, which may not be asked.
+/// Runs on named files. Standard input must not be read, except in one of them.
 pub(crate) const NAMED: &[Row] = &[
     (&["eval", "spec"], "", 0, "s(s(s(z)))\n", ""),
     (&["eval", "spec", "terms"], "", 0, "s(s(s(z)))\ns(z)\n", ""),
@@ -56,8 +57,8 @@ pub(crate) const NAMED: &[Row] = &[
         "",
         0,
         "!term T2\n",
-        "terms:1:1: T2: a node is an integer, a list or a placeholder; a list\n    \
-         [plus(z,s(z))]\n    ^\n",
+        "terms:1:1: T2: integer, list or placeholder as a subterm of an input term; \
+         found a list\n    [plus(z,s(z))]\n    ^\n",
     ),
     (
         &["serve", "terms", "spec"],
@@ -68,6 +69,36 @@ pub(crate) const NAMED: &[Row] = &[
     ),
     (&["serve", "spec"], "", 4, "", "recw: read failed\n"),
     (&["serve", "spec", "none"], "", 4, "", "recw: read failed\n"),
+    (&["join", "spec", "none"], "", 4, "", "recw: read failed\n"),
+    (
+        &["join", "spec", "terms"],
+        "",
+        1,
+        "terms:1:1: error: syntax error in the specification [G]\n",
+        "",
+    ),
+    (
+        &["check", "--join", "spec", "terms"],
+        "",
+        1,
+        "terms:1:1: error: syntax error in the specification [G]\n",
+        "",
+    ),
+    (
+        &["eval", "--join", "spec", "spec"],
+        "",
+        1,
+        "!spec S1\n",
+        "recw: spec S1 at byte 19\n",
+    ),
+    (
+        &["eval", "--explain", "--join", "terms", "spec"],
+        "",
+        1,
+        "!spec G\n",
+        "recw: spec G at byte 0\nterms:1:1: G: syntax error in the specification; \
+         expected `REC-SPEC`\n    [plus(z,s(z))]\n    ^\n",
+    ),
     (
         &["trace", "spec", "terms", "--last", "1"],
         "",
@@ -97,22 +128,24 @@ pub(crate) const NAMED: &[Row] = &[
     (&["eval"], "", 4, "", "recw: read failed\n"),
 ];
 
-/// Runs the program on these files, where the standard input may not be asked.
+/// Runs the program on these files, with a standard input that must not be read.
 pub(crate) fn run_on(files: &Shelf, alloc: Global, words: &[&str]) -> Ran {
     run_over(files, alloc, words, &mut Unread)
 }
 
-/// A writer that takes nothing where it is full, and else all, but cannot be flushed.
-#[derive(Drop)]
+/// A writer that fails at each write if it is full, and otherwise at each flush.
+#[derive(Clone, Copy, Drop)]
 struct Failing {
-    /// Whether it takes nothing.
+    /// Whether it fails at each write.
     is_full: bool,
+    /// The error.
+    kind: ErrorKind,
 }
 
 impl Write for Failing {
     fn write(&mut self, buf: &[u8]) -> io::Result<usize> {
         if self.is_full {
-            return Err(io::Error::from(ErrorKind::StorageFull));
+            return Err(io::Error::from(self.kind));
         }
         Ok(buf.len())
     }
@@ -121,11 +154,11 @@ impl Write for Failing {
         if self.is_full {
             return Ok(());
         }
-        Err(io::Error::from(ErrorKind::StorageFull))
+        Err(io::Error::from(self.kind))
     }
 }
 
-/// Whether the output is full, and words that write, of each kind of run, whose last step is a
+/// Whether the output is full, and arguments for each kind of run. The last step of each is a
 /// flush.
 const WRITES: [(bool, &[&str]); 10] = [
     (true, &["--help"]),
@@ -140,25 +173,55 @@ const WRITES: [(bool, &[&str]); 10] = [
     (false, &["make", "<int>", "[1]"]),
 ];
 
-/// The program ends as where a write fails.
-fn fails_to_write<H: Abort + Files>(rt: &H, alloc: Global, is_full: bool, words: &[&str]) {
+/// Checks that a run with a failing output has status 4 and this standard error.
+fn fails_to_write<H: Abort + Files>(
+    rt: &H,
+    alloc: Global,
+    failing: Failing,
+    words: &[&str],
+    told: &str,
+) {
     let mut err = Console::new(Vec::new(alloc), false);
     let mut input = ADDITION.as_bytes();
-    let mut out = Failing { is_full };
+    let mut out = failing;
     let status = program(rt, alloc, words, &mut input, &mut out, &mut err);
     let err = err.into_inner();
-    let is_told = status == 4 && err.as_slice() == b"recw: write failed\n".as_slice();
+    let is_told = status == 4 && err.as_slice() == told.as_bytes();
     assert!(rt; is_told, "{words:?}");
 }
 
 #[test]
 fn reports_a_failing_output(rt: HostRuntime) {
+    let kind = ErrorKind::StorageFull;
     for (is_full, words) in &WRITES {
-        fails_to_write(&rt, rt.alloc(), *is_full, words);
+        let is_full = *is_full;
+        let failing = Failing { is_full, kind };
+        fails_to_write(&rt, rt.alloc(), failing, words, "recw: write failed\n");
     }
 }
 
-/// Why the words could not be read, the status and the standard error.
+/// If the reader of the output goes away, there is no message.
+#[test]
+fn is_quiet_about_a_closed_pipe(rt: HostRuntime) {
+    let kind = ErrorKind::BrokenPipe;
+    for (is_full, words) in &WRITES {
+        let is_full = *is_full;
+        fails_to_write(&rt, rt.alloc(), Failing { is_full, kind }, words, "");
+    }
+}
+
+/// The message about a closed pipe.
+const CLOSED: &str = "recw: write failed\n<stdout>: broken pipe\n";
+
+#[test]
+fn explains_a_closed_pipe(rt: HostRuntime) {
+    let is_full = true;
+    let kind = ErrorKind::BrokenPipe;
+    let words = &["eval", "--explain"];
+    fails_to_write(&rt, rt.alloc(), Failing { is_full, kind }, words, CLOSED);
+}
+
+/// The errors of reading the arguments, the status and standard error.
 const STARTS: [(ErrorKind, u8, &str); 2] = [
     (ErrorKind::OutOfMemory, 3, "recw: out of memory\n"),
     (
@@ -168,7 +231,7 @@ const STARTS: [(ErrorKind, u8, &str); 2] = [
     ),
 ];
 
-/// The program says why the words could not be read.
+/// Compares the report of an error in reading the arguments.
 fn tells_of(rt: &impl Abort, alloc: Global, kind: ErrorKind, status: u8, said: &str) {
     let mut err = Vec::new(alloc);
     let got = failed_start(&io::Error::from(kind), &mut err);

@@ -1,4 +1,4 @@
-//! What is told while terms are evaluated, and what they took.
+//! Tests of progress lines and profiles.
 
 use crate::profile::Profile;
 use crate::progress::Progress;
@@ -15,12 +15,12 @@ use std::process::Abort;
 use std::rt::Files;
 use std::time::{Clock, Duration};
 
-/// A clock that goes on each time it is asked, or does not go.
+/// A clock that advances each time it is read, or that has no time.
 #[derive(Drop)]
 struct Ticking {
-    /// What it shows next, in milliseconds.
+    /// Its next time, in milliseconds.
     now: Cell<u64>,
-    /// By how many of them it goes on; none where it tells no time.
+    /// The milliseconds by which it advances; 0 if it has no time.
     step: u64,
 }
 
@@ -39,7 +39,7 @@ impl Clock for Ticking {
     }
 }
 
-/// A clock that was not asked, which goes on by so many milliseconds.
+/// Returns a clock that advances by this number of milliseconds.
 fn clock_of(step: u64) -> Ticking {
     Ticking {
         now: Cell::new(0),
@@ -47,8 +47,8 @@ fn clock_of(step: u64) -> Ticking {
     }
 }
 
-/// By how many milliseconds the clock goes on, how often somebody is told, and how often that is
-/// shown: behind a second, and then a tenth of one behind the last.
+/// The milliseconds by which the clock advances, the number of progress reports, and the expected
+/// number of lines: the first after a second, and then one each tenth of a second.
 const TIMES: [(u64, u32, usize); 7] = [
     (400, 3, 0),
     (400, 5, 2),
@@ -60,17 +60,18 @@ const TIMES: [(u64, u32, usize); 7] = [
     (0, 100, 0),
 ];
 
-/// What is shown of a term that has as many steps left, and what wipes it.
+/// The line for a term with this number of steps left, and the bytes that clear it.
 const LINE: &[u8] = b"\rrecw: term 1: 12,345,678 of 1,000,000,000 steps, 262,144 cells\x1b[K";
 
 const WIPED: &[u8] = b"\r\x1b[K";
 
-/// It is shown so often, and then wiped; nothing of it where it is not asked for.
+/// Checks that the line is shown this number of times and then cleared; not at all if progress is
+/// not requested.
 fn shows(rt: &impl Abort, alloc: Global, step: u64, told: u32, shown: usize) -> io::Result<()> {
     let clock = clock_of(step);
     let mut err = Vec::new(alloc);
-    let mut progress = Progress::new(alloc, &clock, true, 1_000_000_000);
-    let mut silent = Progress::new(alloc, &clock, false, 1_000_000_000);
+    let mut progress = Progress::new(alloc, &clock, true, 1_000_000_000, 80);
+    let mut silent = Progress::new(alloc, &clock, false, 1_000_000_000, 80);
     for _ in 0..told {
         progress.show(987_654_322, 262_144, &mut err);
         silent.show(987_654_322, 262_144, &mut err);
@@ -97,7 +98,7 @@ fn shows_how_far_a_term_is(rt: HostRuntime) -> io::Result<()> {
     Ok(())
 }
 
-/// What is shown of the second and the third of three terms.
+/// The lines of the second and the third of three terms.
 const SECOND: &[u8] = b"\rrecw: term 2: 0 of 1,000 steps, 999 cells\x1b[K\r\x1b[K\
     \rrecw: term 3: 1,000 of 1,000 steps, 1,073,741,824 cells\x1b[K\r\x1b[K";
 
@@ -105,7 +106,7 @@ const SECOND: &[u8] = b"\rrecw: term 2: 0 of 1,000 steps, 999 cells\x1b[K\r\x1b[
 fn shows_which_term_it_is(rt: HostRuntime) {
     let clock = clock_of(2000);
     let mut err = Vec::new(rt.alloc());
-    let mut progress = Progress::new(rt.alloc(), &clock, true, 1000);
+    let mut progress = Progress::new(rt.alloc(), &clock, true, 1000, 80);
     progress.show(999, 1, &mut err);
     progress.end_term(&mut err);
     progress.show(1000, 999, &mut err);
@@ -115,7 +116,34 @@ fn shows_which_term_it_is(rt: HostRuntime) {
     assert!(&rt; err.as_slice() == SECOND);
 }
 
-/// What was counted of the rules of the addition.
+/// The columns of a terminal, and the line of a term of a step on it, with the bytes that clear it.
+const WIDTHS: [(usize, &[u8]); 4] = [
+    (
+        42,
+        b"\rrecw: term 1: 1 of 1,000 steps, 999 cells\x1b[K\r\x1b[K",
+    ),
+    (
+        41,
+        b"\rrecw: term 1: 1 of 1,000 steps, 999 cell\x1b[K\r\x1b[K",
+    ),
+    (13, b"\rrecw: term 1\x1b[K\r\x1b[K"),
+    (1, b"\r\x1b[K\r\x1b[K"),
+];
+
+#[test]
+fn cuts_lines_to_the_terminal(rt: HostRuntime) {
+    let clock = clock_of(2000);
+    for (width, line) in &WIDTHS {
+        let mut err = Vec::new(rt.alloc());
+        let mut progress = Progress::new(rt.alloc(), &clock, true, 1000, *width);
+        progress.show(999, 1, &mut err);
+        progress.show(999, 999, &mut err);
+        progress.end_term(&mut err);
+        assert!(&rt; err.as_slice() == *line, "{width}");
+    }
+}
+
+/// The counts of the rules of the addition.
 const COUNTS: &[RuleCount] = &[
     RuleCount {
         matched: 1,
@@ -129,7 +157,7 @@ const COUNTS: &[RuleCount] = &[
     },
 ];
 
-/// What was done.
+/// The totals.
 const TALLY: Tally = Tally {
     steps: 28,
     remembered: 2,
@@ -139,13 +167,13 @@ const TALLY: Tally = Tally {
     reclaims: 5,
 };
 
-/// What is told of both.
-const PROFILE: &str = "profile: 1:103: 1 matched, 1 fired, 0 failed\n\
-     profile: 1:118: 20 matched, 4 fired, 15 failed\n\
-     profile: steps: 28 spent, 21 matched, 7 remembered by 2 results\n\
-     profile: cells: 40 made, 9 held at most\nprofile: reclaims: 5\n";
+/// The profile of both.
+const PROFILE: &str = "profile: 1:103: 1 matched, 1 applied, 0 failed\n\
+     profile: 1:118: 20 matched, 4 applied, 15 failed\n\
+     profile: steps: 28 spent, 21 matched, 7 saved by 2 memo hits\n\
+     profile: cells: 40 made, 9 in use at most\nprofile: garbage collections: 5\n";
 
-/// The specification of the addition.
+/// Returns the specification of the addition.
 fn addition(rt: &impl Abort, alloc: Global) -> Checked {
     let Ok(syntax) = read_spec(alloc, ADDITION.as_bytes()) else {
         return rt.abort();
@@ -156,7 +184,7 @@ fn addition(rt: &impl Abort, alloc: Global) -> Checked {
     }
 }
 
-/// The profile of these counts is this.
+/// Compares the profile of these counts.
 fn profiles(rt: &impl Abort, alloc: Global, counts: &[RuleCount], wanted: &str) {
     let checked = addition(rt, alloc);
     let mut told = Vec::new(alloc);
@@ -173,7 +201,7 @@ fn tells_what_a_run_took(rt: HostRuntime) {
     profiles(&rt, rt.alloc(), &[], "profile: out of memory\n");
 }
 
-/// Runs that are told of, where the beginning and the end of standard error are known.
+/// Runs with messages, of which the beginning and the end of standard error are known.
 const RUNS: [(Row, &str); 6] = [
     (
         (
@@ -181,11 +209,11 @@ const RUNS: [(Row, &str); 6] = [
             ADDITION,
             0,
             "s(s(s(z)))\n",
-            "profile: 1:103: 1 matched, 1 fired, 0 failed\n\
-             profile: 1:118: 2 matched, 2 fired, 0 failed\n\
-             profile: steps: 3 spent, 3 matched, 0 remembered by 0 results\nprofile: cells: ",
+            "profile: 1:103: 1 matched, 1 applied, 0 failed\n\
+             profile: 1:118: 2 matched, 2 applied, 0 failed\n\
+             profile: steps: 3 spent, 3 matched, 0 saved by 0 memo hits\nprofile: cells: ",
         ),
-        "\nprofile: reclaims: 0\n",
+        "\nprofile: garbage collections: 0\n",
     ),
     (
         (
@@ -193,11 +221,11 @@ const RUNS: [(Row, &str); 6] = [
             ADDITION,
             0,
             "!limit 2\n",
-            "profile: 1:103: 0 matched, 0 fired, 0 failed\n\
-             profile: 1:118: 2 matched, 2 fired, 0 failed\n\
-             profile: steps: 2 spent, 2 matched, 0 remembered by 0 results\nprofile: cells: ",
+            "profile: 1:103: 0 matched, 0 applied, 0 failed\n\
+             profile: 1:118: 2 matched, 2 applied, 0 failed\n\
+             profile: steps: 2 spent, 2 matched, 0 saved by 0 memo hits\nprofile: cells: ",
         ),
-        "\nprofile: reclaims: 0\n",
+        "\nprofile: garbage collections: 0\n",
     ),
     (
         (
@@ -205,9 +233,9 @@ const RUNS: [(Row, &str); 6] = [
             ADDITION,
             3,
             "",
-            "profile: 1:103: 0 matched, 0 fired, 0 failed\n\
-             profile: 1:118: 0 matched, 0 fired, 0 failed\n\
-             profile: steps: 0 spent, 0 matched, 0 remembered by 0 results\nprofile: cells: ",
+            "profile: 1:103: 0 matched, 0 applied, 0 failed\n\
+             profile: 1:118: 0 matched, 0 applied, 0 failed\n\
+             profile: steps: 0 spent, 0 matched, 0 saved by 0 memo hits\nprofile: cells: ",
         ),
         "\nrecw: out of cells\n",
     ),
@@ -236,10 +264,10 @@ const RUNS: [(Row, &str); 6] = [
             STUCK,
             5,
             "f(z)\nf(s(z))\n",
-            "profile: 1:91: 1 matched, 0 fired, 1 failed\n\
-             profile: steps: 1 spent, 1 matched, 0 remembered by 0 results\nprofile: cells: ",
+            "profile: 1:91: 1 matched, 0 applied, 1 failed\n\
+             profile: steps: 1 spent, 1 matched, 0 saved by 0 memo hits\nprofile: cells: ",
         ),
-        "\nprofile: reclaims: 0\nstuck: f(z): no rule matches\n\
+        "\nprofile: garbage collections: 0\nstuck: f(z): no rule matches\n\
          stuck: f(s(z)): the conditions of 1:91 fail\n",
     ),
     (
@@ -248,14 +276,14 @@ const RUNS: [(Row, &str); 6] = [
             STUCK,
             3,
             "",
-            "profile: 1:91: 0 matched, 0 fired, 0 failed\n\
-             profile: steps: 0 spent, 0 matched, 0 remembered by 0 results\nprofile: cells: ",
+            "profile: 1:91: 0 matched, 0 applied, 0 failed\n\
+             profile: steps: 0 spent, 0 matched, 0 saved by 0 memo hits\nprofile: cells: ",
         ),
         "\nrecw: out of cells\n",
     ),
 ];
 
-/// The run tells what the row says, and ends so.
+/// Compares the results of a run, and the beginning and the end of standard error.
 fn tells<H: Abort + Files>(rt: &H, alloc: Global, row: &Row, end: &str) {
     let (words, text, status, out, front) = *row;
     let ran = run(rt, alloc, words, text);
@@ -274,8 +302,7 @@ fn tells_of_runs(rt: HostRuntime) {
     }
 }
 
-/// With both options it is told what is told with each of them, first what the run took, and the
-/// rest is as with the second one.
+/// With both options, the profile is written first, and the rest is as with the other option alone.
 fn tells_both<H: Abort + Files>(rt: &H, alloc: Global, text: &str) -> io::Result<()> {
     let took = run(rt, alloc, &["eval", "--profile"], text);
     let calls = run(rt, alloc, &["eval", "--stuck"], text);

@@ -1,13 +1,13 @@
-//! The words of the command line, the exit statuses and what standard output says.
+//! Tests of arguments, exit statuses and standard output.
 
 use crate::tests::{ADDITION, Row};
 
-/// Two terms whose evaluation has no end: one turns in a circle, one grows.
+/// Two terms whose evaluation does not terminate: one runs in a circle, one grows.
 const LOOPING: &str = "REC-SPEC L SORTS N CONS z : -> N s : N -> N OPNS f : N -> N g : N -> N \
      VARS X : N RULES f(X) -> f(X) g(X) -> s(g(X)) EVAL f(z) g(z) END-SPEC";
 
-/// Evaluations, without words, without an end, at the ends of their options' ranges and for each
-/// status.
+/// Evaluations: without arguments, without an end, with options at the ends of their ranges, and
+/// for each status.
 pub(crate) const STATUSES: &[Row] = &[
     (&[], ADDITION, 0, "s(s(s(z)))\n", ""),
     (
@@ -105,7 +105,7 @@ pub(crate) const STATUSES: &[Row] = &[
     ),
 ];
 
-/// Evaluations that are told rule by rule.
+/// Traces of evaluations.
 pub(crate) const TRACES: &[Row] = &[
     (
         &["trace", "-"],
@@ -150,7 +150,7 @@ pub(crate) const TRACES: &[Row] = &[
         ADDITION,
         3,
         "",
-        "recw: out of cells\n--cells raises the limit, which is 3 cells\n",
+        "recw: out of cells\nthe store limit is 3 cells; raise it with --cells\n",
     ),
     (
         &["trace", "/dev/null", "-"],
@@ -298,21 +298,68 @@ pub(crate) const PATTERNS: &[Row] = &[
         &["check", "-"],
         "REC-SPEC E SORTS A CONS OPNS VARS RULES EVAL END-SPEC",
         0,
-        "<stdin>:1:18: W4: never used: no symbol and no variable has this sort: A\n",
+        "<stdin>:1:18: warning: unused sort: A [W4]\n",
         "",
     ),
     (
         &["check", "--strict", "-"],
         "REC-SPEC E SORTS A CONS OPNS VARS RULES EVAL END-SPEC",
         1,
-        "<stdin>:1:18: W4: never used: no symbol and no variable has this sort: A\n",
+        "<stdin>:1:18: warning: unused sort: A [W4]\n",
         "",
     ),
     (
         &["check", "-"],
         "",
         1,
-        "<stdin>:1:1: G: no specification has this here\n",
+        "<stdin>:1:1: error: syntax error in the specification [G]\n",
+        "",
+    ),
+    (
+        &["uses"],
+        "REC-SPEC E SORTS A CONS a : -> A s : A -> B OPNS f : A B -> A VARS X Y : A\nRULES f(a,X) \
+         -> b if X -><- Y EVAL f(s) END-SPEC",
+        0,
+        "<stdin>:1:18: sort A: 1:18\n\
+         <stdin>:1:25: constructor a: 1:25: -> A\n\
+         <stdin>:1:32: sort A: 1:18\n\
+         <stdin>:1:34: constructor s: 1:34: A -> B\n\
+         <stdin>:1:38: sort A: 1:18\n\
+         <stdin>:1:43: sort B: -\n\
+         <stdin>:1:50: operator f: 1:50: A B -> A\n\
+         <stdin>:1:54: sort A: 1:18\n\
+         <stdin>:1:56: sort B: -\n\
+         <stdin>:1:61: sort A: 1:18\n\
+         <stdin>:1:68: variable X: 1:68: A\n\
+         <stdin>:1:70: variable Y: 1:70: A\n\
+         <stdin>:1:74: sort A: 1:18\n\
+         <stdin>:2:7: operator f: 1:50: A B -> A\n\
+         <stdin>:2:9: constructor a: 1:25: -> A\n\
+         <stdin>:2:11: variable X: 1:68: A\n\
+         <stdin>:2:17: undeclared b: -\n\
+         <stdin>:2:22: variable X: 1:68: A\n\
+         <stdin>:2:29: variable Y: 1:70: A\n\
+         <stdin>:2:36: operator f: 1:50: A B -> A\n\
+         <stdin>:2:38: constructor s: 1:34: A -> B\n",
+        "",
+    ),
+    (
+        &["uses", "--at", "1:61", "-"],
+        ADDITION,
+        0,
+        "<stdin>:1:60: operator plus: 1:60: Nat Nat -> Nat\n\
+         <stdin>:1:103: operator plus: 1:60: Nat Nat -> Nat\n\
+         <stdin>:1:118: operator plus: 1:60: Nat Nat -> Nat\n\
+         <stdin>:1:136: operator plus: 1:60: Nat Nat -> Nat\n\
+         <stdin>:1:152: operator plus: 1:60: Nat Nat -> Nat\n",
+        "",
+    ),
+    (&["uses", "--at", "1:7"], ADDITION, 0, "", ""),
+    (
+        &["uses"],
+        "",
+        1,
+        "<stdin>:1:1: error: syntax error in the specification [G]\n",
         "",
     ),
     (&["make", " -7", "[]"], "", 0, "-7\n", ""),

@@ -1,4 +1,4 @@
-//! Banks of both kinds, and the terms in them.
+//! Stores of both kinds, and the terms in them.
 
 ghost use Rattle.std.specs.Prelude.{IsSome};
 ghost use Rattle.rx_term.specs.Store.{tree_at};
@@ -10,34 +10,34 @@ use rx_text::{read, write};
 use std::alloc::Global;
 use std::process::Abort;
 
-/// A bank of no terms, which shares none.
+/// Returns an empty plain store.
 pub fn plain_bank(rt: &impl Abort, alloc: Global, cap: u32) -> PlainBank {
     assert!(rt; cap > 0 && cap <= 100_000);
     PlainBank::new(alloc, cap).expect(rt, "a bank")
 }
 
-/// A bank of no terms, which shares all.
+/// Returns an empty shared store.
 pub fn shared_bank(rt: &impl Abort, alloc: Global, cap: u32) -> SharedBank {
     assert!(rt; cap > 0 && cap <= 2_000_000);
     SharedBank::new(alloc, cap).expect(rt, "a bank")
 }
 
-/// A bank of no terms, which shares none, in a box, which is less to carry.
+/// Returns an empty plain store on the heap, so that less is copied.
 pub fn plain_box(rt: &impl Abort, alloc: Global, cap: u32) -> Box<PlainBank> {
     Box::new(alloc, plain_bank(rt, alloc, cap)).expect(rt, "memory")
 }
 
-/// The same of one which shares all.
+/// Returns an empty shared store on the heap, so that less is copied.
 pub fn shared_box(rt: &impl Abort, alloc: Global, cap: u32) -> Box<SharedBank> {
     Box::new(alloc, shared_bank(rt, alloc, cap)).expect(rt, "memory")
 }
 
-/// The term of a text.
+/// Reads the term of a text.
 pub fn term_of<B: TermBank>(rt: &impl Abort, alloc: Global, bank: &mut B, text: &[u8]) -> Term {
     read(alloc, text, bank).expect(rt, "a term")
 }
 
-/// Stops unless a bank holds three terms.
+/// Aborts the test unless a store has three terms.
 pub fn expect_held<B: TermBank>(rt: &impl Abort, bank: &B, terms: (Term, Term, Term))
     ensures first { IsSome (tree_at (B.store bank.now) terms.0) }
     ensures second { IsSome (tree_at (B.store bank.now) terms.1) }
@@ -46,7 +46,7 @@ pub fn expect_held<B: TermBank>(rt: &impl Abort, bank: &B, terms: (Term, Term, T
     assert!(rt; bank.holds(terms.0) && bank.holds(terms.1) && bank.holds(terms.2));
 }
 
-/// The text of a term.
+/// Returns the text of a term.
 pub fn text_of<B: TermBank>(rt: &impl Abort, alloc: Global, bank: &B, t: Term) -> Vec<u8> {
     assert!(rt; bank.holds(t));
     let mut text = Vec::new(alloc);
@@ -54,7 +54,7 @@ pub fn text_of<B: TermBank>(rt: &impl Abort, alloc: Global, bank: &B, t: Term) -
     text
 }
 
-/// Stops where a term has another text.
+/// Aborts the test unless a term has this text.
 pub fn expect_text<B: TermBank>(rt: &impl Abort, alloc: Global, bank: &B, t: Term, wanted: &[u8]) {
     assert!(rt; text_of(rt, alloc, bank, t).as_slice() == wanted);
 }

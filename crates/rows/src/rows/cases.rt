@@ -1,4 +1,4 @@
-//! Engines over banks of no terms, and what is asked of them.
+//! Engines over empty stores, and what is tested of them.
 
 use crate::rows::banks::{plain_bank, shared_bank};
 use crate::rows::engine::{Row, expect_rows};
@@ -9,19 +9,19 @@ use rx_term::TermBank;
 use std::alloc::Global;
 use std::process::Abort;
 
-/// A bank that shares none or all, with so many cells.
+/// The kind of store, and its capacity.
 #[derive(Drop)]
 pub enum Bank {
     Plain(u32),
     Shared(u32),
 }
 
-/// What is asked of an engine.
+/// The subject of a test of an engine.
 #[derive(Drop)]
 pub enum Question {
-    /// How terms end.
+    /// How evaluations end.
     Rows(&'static [Row]),
-    /// What else there is of a module.
+    /// The test cases of other modules.
     Cells(engine::Cells),
     Depth(depth::Waits),
     Values(values::Values),
@@ -29,7 +29,7 @@ pub enum Question {
     Trace(trace::Traced),
 }
 
-/// An engine, and what is asked of it.
+/// An engine, and the subject of its test.
 #[derive(Drop)]
 pub struct Case {
     pub spec: &'static [u8],
@@ -38,25 +38,25 @@ pub struct Case {
     pub question: Question,
 }
 
-/// No results are remembered, and hardly ever is anything given back.
+/// Options without a memo table, and with few collections.
 pub const OPTIONS: Options = Options {
     memo: 0,
     reclaim_every: 262_144,
 };
 
-/// With a reclaim as soon as a cell is new.
+/// Options with a collection after each new cell.
 pub const ANEW: Options = Options {
     memo: 0,
     reclaim_every: 1,
 };
 
-/// Many results are remembered.
+/// Options with a large memo table.
 pub const REMEMBERING: Options = Options {
     memo: 65_536,
     reclaim_every: 262_144,
 };
 
-/// Stops where an engine answers otherwise.
+/// Aborts the test unless an engine behaves as expected.
 fn ask<B: TermBank>(rt: &impl Abort, alloc: Global, engine: &mut Engine<B>, question: &Question) {
     match question {
         Question::Rows(rows) => expect_rows(rt, alloc, engine, rows),
@@ -68,7 +68,7 @@ fn ask<B: TermBank>(rt: &impl Abort, alloc: Global, engine: &mut Engine<B>, ques
     }
 }
 
-/// An engine for a specification over a bank.
+/// Returns an engine for a specification over a store.
 fn engine_for<B: TermBank + Drop>(
     rt: &impl Abort,
     alloc: Global,
@@ -86,13 +86,13 @@ fn engine_for<B: TermBank + Drop>(
     Box::new(alloc, engine).expect(rt, "memory")
 }
 
-/// Asks an engine over a bank.
+/// Tests an engine over a store.
 fn ask_over<B: TermBank + Drop>(rt: &impl Abort, alloc: Global, case: &Case, bank: B) {
     let mut engine = engine_for(rt, alloc, case.spec, bank, case.options);
     ask(rt, alloc, &mut *engine, &case.question);
 }
 
-/// Stops where the engine of a case answers otherwise.
+/// Tests the engine of a test case.
 fn expect_case(rt: &impl Abort, alloc: Global, case: &Case) {
     match case.bank {
         Bank::Plain(cells) => ask_over(rt, alloc, case, plain_bank(rt, alloc, cells)),
@@ -100,7 +100,7 @@ fn expect_case(rt: &impl Abort, alloc: Global, case: &Case) {
     }
 }
 
-/// Stops where the engine of one of some cases answers otherwise.
+/// Tests the engines of test cases.
 pub fn expect_cases(rt: &impl Abort, alloc: Global, cases: &[&Case]) {
     for case in cases {
         expect_case(rt, alloc, case);

@@ -1,9 +1,9 @@
-//! A bank whose readers count their calls.
+//! A store that counts the calls of its readers.
 
 use rx_term::{BankFault, Kind, RootsFull, Symbol, Term, TermBank};
 use std::cell::Cell;
 
-/// A bank, and how often one of its nodes was read.
+/// A store, and the number of nodes that were read.
 #[derive(Drop)]
 pub struct Counting<B> {
     pub bank: B,
@@ -11,7 +11,7 @@ pub struct Counting<B> {
 }
 
 impl<B> Counting<B> {
-    /// One read more.
+    /// Counts one call.
     fn count(&self) {
         self.reads.set(self.reads.get().saturating_add(1));
     }

@@ -1,30 +1,34 @@
-//! How many calls may wait at once.
+//! Tests of the call-depth limit.
 
 use crate::rows::cases::{Bank, Case, OPTIONS, Question, expect_cases};
 use crate::rows::engine::{ADD, End, HIT, PAIR, Row, SUM, expect_rows, has_ended};
 use crate::rows::values::{ADDITION, expect_addends, expect_in_two, one_and_zero};
-use rec_engine::{DepthFault, Engine, Outcome};
+use rec_engine::{Engine, EngineFault, Limits, Outcome, Unwatched};
 use rx_term::{Term, TermBank};
 use std::alloc::Global;
 use std::process::Abort;
 
-/// What the first term comes to within `n` steps, where so many calls may wait.
+/// Evaluates the first EVAL term within `n` steps and this call-depth limit.
 fn outcome_within<B: TermBank>(
     rt: &impl Abort,
     engine: &mut Engine<B>,
     n: u64,
     depth: u32,
-) -> Result<Outcome, DepthFault> {
+) -> Result<Outcome, EngineFault> {
     assert!(rt; engine.eval_terms() > 0);
     let t = engine.eval_term(0).expect(rt, "a term");
-    engine.normalise_within(t, n, depth)
+    let limits = Limits {
+        steps: n,
+        depth: Some(depth),
+    };
+    engine.normalise_with(t, limits, &mut Unwatched)
 }
 
-/// The most steps of the first term, how many calls may wait, and how it ends then.
+/// The step limit of the first EVAL term, the call-depth limit, and how the evaluation ends.
 pub type Waiting = (u64, u32, End);
 
-/// For `add(s(s(z)),s(z))` three wait: the term for its sum, and in the first step and the second
-/// one `s(add(X,Y))` for the sum in it.
+/// `add(s(s(z)),s(z))` needs three frames: one for the term, and one for `s(add(X,Y))` in the first
+/// and in the second step.
 const THRICE: [Waiting; 6] = [
     (0, 0, End::Deep),
     (0, 1, End::Limit),
@@ -34,14 +38,14 @@ const THRICE: [Waiting; 6] = [
     (3, 3, End::Value(SUM, 3)),
 ];
 
-/// The same sum where as many may wait as there is memory for.
+/// The sum without a call-depth limit.
 const AT_LAST: [Row; 1] = [(0, 3, End::Value(SUM, 3))];
 
-/// Calls that stand last wait for nothing: the term waits for `d`, and the right side of
-/// `d(X) -> p(k(X),k(X))` for one `k` after the other, which calls itself last.
+/// A tail call needs no frame. The term has a frame for `d`; the right-hand side of `d(X) ->
+/// p(k(X),k(X))` has one for each `k` in turn, which calls itself as a tail call.
 const TWICE: [Waiting; 2] = [(7, 1, End::Deep), (7, 2, End::Value(PAIR, 7))];
 
-/// Stops where the first term ends otherwise than its rows say.
+/// Aborts the test unless the first EVAL term ends as expected.
 fn expect_waiting<B: TermBank>(
     rt: &impl Abort,
     alloc: Global,
@@ -55,24 +59,28 @@ fn expect_waiting<B: TermBank>(
     }
 }
 
-/// Whether it is that as many calls wait as may.
-fn is_deep(outcome: Result<Outcome, DepthFault>) -> bool {
-    matches!(outcome, Err(DepthFault::Deep))
+/// Returns whether the call-depth limit was reached.
+fn is_deep(outcome: Result<Outcome, EngineFault>) -> bool {
+    matches!(outcome, Err(EngineFault::Deep))
 }
 
-/// What the sum of two values comes to within two steps, where so many calls may wait; the first
-/// value is kept.
+/// Evaluates the sum of two values within two steps and this call-depth limit. The first value is
+/// protected.
 fn call_on_both_within<B: TermBank>(
     rt: &impl Abort,
     engine: &mut Engine<B>,
     (first, second): (Term, Term),
     depth: u32,
-) -> Result<Outcome, DepthFault> {
+) -> Result<Outcome, EngineFault> {
     expect_addends(rt, engine, (first, second));
-    engine.call_within(first, ADDITION, &[first, second], 2, depth)
+    let limits = Limits {
+        steps: 2,
+        depth: Some(depth),
+    };
+    engine.call(first, ADDITION, &[first, second], limits)
 }
 
-/// Stops unless one waits for `add(s(z),z)`.
+/// Aborts the test unless `add(s(z),z)` needs one frame.
 fn waits_in_call<B: TermBank>(rt: &impl Abort, engine: &mut Engine<B>) {
     let both = one_and_zero(rt, engine);
     assert!(rt; is_deep(call_on_both_within(rt, engine, both, 0)));
@@ -80,14 +88,14 @@ fn waits_in_call<B: TermBank>(rt: &impl Abort, engine: &mut Engine<B>) {
     expect_in_two(rt, outcome, both.0);
 }
 
-/// Which calls wait.
+/// The calls whose depth is tested.
 #[derive(Drop)]
 pub enum Waits {
-    /// Those of the first term.
+    /// The first EVAL term.
     OfTerm(&'static [Waiting]),
-    /// Those of the sum.
+    /// The sum.
     OfSum,
-    /// That of a call on values.
+    /// A call with values as arguments.
     OfCall,
 }
 
@@ -112,7 +120,7 @@ const CALLS_ON_VALUES: Case = Case {
     question: Question::Depth(Waits::OfCall),
 };
 
-/// Stops where other calls of an engine wait.
+/// Aborts the test unless an engine needs the expected call depth.
 pub fn ask<B: TermBank>(rt: &impl Abort, alloc: Global, engine: &mut Engine<B>, waits: &Waits) {
     match waits {
         Waits::OfTerm(rows) => expect_waiting(rt, alloc, engine, rows),

@@ -1,14 +1,14 @@
-//! The engine over both banks.
+//! Tests of the engine over both stores.
 
 use crate::rows::banks::text_of;
 use crate::rows::cases::{ANEW, Bank, Case, OPTIONS, Question, REMEMBERING, expect_cases};
-use rec_engine::{DepthFault, Engine, EngineFault, Options, Outcome};
+use rec_engine::{Engine, EngineFault, Options, Outcome};
 use rx_term::{Term, TermBank};
 use std::alloc::Global;
 use std::process::Abort;
 
-/// The first term is of eight parts: itself, `[s(s(z)),s(z)]`, `s(s(z))`, `[s(z)]`, `s(z)`, `[z]`,
-/// `z` and `[]`.
+/// The first EVAL term has eight cells: itself, `[s(s(z)),s(z)]`, `s(s(z))`, `[s(z)]`, `s(z)`,
+/// `[z]`, `z` and `[]`.
 pub const ADD: &[u8] = b"REC-SPEC Add SORTS N \
     CONS z : -> N s : N -> N \
     OPNS add : N N -> N \
@@ -25,7 +25,7 @@ pub const COND: &[u8] = b"REC-SPEC Cond SORTS N \
         g(z) -> s(z) g(s(X)) -> s(X) \
     EVAL f(z) f(s(z)) END-SPEC";
 
-/// Each term is an application of `h` to a constant of its own, which no rule changes.
+/// Each term is an application of `h` to a constant of its own. It is a normal form.
 pub const TWENTY: &[u8] = b"REC-SPEC Twenty SORTS N \
     CONS c1 : -> N c2 : -> N c3 : -> N c4 : -> N c5 : -> N \
         c6 : -> N c7 : -> N c8 : -> N c9 : -> N c10 : -> N \
@@ -43,7 +43,7 @@ pub const HIT: &[u8] = b"REC-SPEC Hit SORTS Nat Pair \
     RULES k(z) -> z k(s(X)) -> k(X) d(X) -> p(k(X),k(X)) \
     EVAL d(s(s(z))) END-SPEC";
 
-/// It comes to `z` in so many steps as `FAST_STEPS` says.
+/// Its result is `z`, after `FAST_STEPS` steps.
 pub const FAST: &[u8] = b"REC-SPEC Fast SORTS Nat \
     CONS z : -> Nat s : Nat -> Nat \
     OPNS k : Nat -> Nat q : Nat Nat -> Nat \
@@ -57,7 +57,8 @@ pub const FAST: &[u8] = b"REC-SPEC Fast SORTS Nat \
 /// 3 * 2^50 - 2.
 pub const FAST_STEPS: u64 = 3_377_699_720_527_870;
 
-/// The condition of `h` holds, and each right side has a ground term of four symbols, or of two.
+/// The condition of `h` holds, and each right-hand side has a ground term of four symbols, or of
+/// two.
 const GROUND: &[u8] = b"REC-SPEC Ground SORTS N \
     CONS z : -> N s : N -> N g : N N -> N \
     OPNS f : N -> N h : N -> N \
@@ -65,20 +66,24 @@ const GROUND: &[u8] = b"REC-SPEC Ground SORTS N \
     RULES f(X) -> g(g(z,s(z)),X) h(X) -> s(z) if X -><- g(z,s(z)) \
     EVAL f(f(h(g(z,s(z))))) END-SPEC";
 
-/// What the first term of the addition comes to.
+/// The result of the first EVAL term of the addition.
 pub const SUM: &[u8] = b"s(s(s(z)))";
 
+/// The text of the number 1.
 pub const ONE: &[u8] = b"s(z)";
 
+/// The text of the number 2.
 pub const TWO: &[u8] = b"s(s(z))";
 
+/// The text of the number 0.
 pub const ZERO: &[u8] = b"z";
 
+/// The text of a pair of zeros.
 pub const PAIR: &[u8] = b"p(z,z)";
 
 const GROUND_VALUE: &[u8] = b"g(g(z,s(z)),g(g(z,s(z)),s(z)))";
 
-/// How an evaluation ends: with a value of this text in so many steps, or otherwise.
+/// The end of an evaluation: a result with this text and this number of steps, or another end.
 #[derive(Drop)]
 pub enum End {
     Value(&'static [u8], u64),
@@ -87,7 +92,7 @@ pub enum End {
     Room,
 }
 
-/// The number of a term, the most steps that it may take, and how it ends then.
+/// The index of a term, its step limit, and how the evaluation ends.
 pub type Row = (u32, u64, End);
 
 const VALUES: Case = Case {
@@ -97,7 +102,7 @@ const VALUES: Case = Case {
     question: Question::Rows(&[(0, 5, End::Value(SUM, 3)), (1, 0, End::Value(ONE, 0))]),
 };
 
-/// Conditions that fail and conditions that hold cost their steps.
+/// Conditions that fail and conditions that hold spend their steps.
 const CONDITIONS: Case = Case {
     spec: COND,
     options: OPTIONS,
@@ -105,7 +110,7 @@ const CONDITIONS: Case = Case {
     question: Question::Rows(&[(0, 9, End::Value(TWO, 5)), (1, 9, End::Value(ONE, 2))]),
 };
 
-/// A sum is over the limit that is one step too low, and is there at the next call.
+/// A sum exceeds a limit that is one step too low, and is evaluated by the next call.
 const LIMITS: Case = Case {
     spec: ADD,
     options: OPTIONS,
@@ -113,7 +118,7 @@ const LIMITS: Case = Case {
     question: Question::Rows(&[(0, 2, End::Limit), (0, 3, End::Value(SUM, 3))]),
 };
 
-/// Ground terms of rules are made right at first and afterwards.
+/// Ground terms of rules are built correctly the first time and later.
 const GROUND_ROWS: [Row; 2] = [
     (0, 3, End::Value(GROUND_VALUE, 3)),
     (0, 3, End::Value(GROUND_VALUE, 3)),
@@ -133,7 +138,7 @@ const GROUND_TERMS_ANEW: Case = Case {
     question: Question::Rows(&GROUND_ROWS),
 };
 
-/// A call that comes again costs what it cost.
+/// A call that is repeated spends the same number of steps.
 const REPEATED_ROWS: [Row; 2] = [(0, 9, End::Value(PAIR, 7)), (0, 6, End::Limit)];
 
 const REPEATED: Case = Case {
@@ -143,7 +148,7 @@ const REPEATED: Case = Case {
     question: Question::Rows(&REPEATED_ROWS),
 };
 
-/// The same where one result is remembered.
+/// Repeated calls with a memo table of one result.
 const REPEATED_BESIDE_ONE: Case = Case {
     spec: HIT,
     options: Options {
@@ -154,7 +159,7 @@ const REPEATED_BESIDE_ONE: Case = Case {
     question: Question::Rows(&REPEATED_ROWS),
 };
 
-/// The same where many are, with a reclaim as soon as a cell is new.
+/// Repeated calls with a large memo table, and a collection after each new cell.
 const REPEATED_ANEW: Case = Case {
     spec: HIT,
     options: Options {
@@ -165,7 +170,7 @@ const REPEATED_ANEW: Case = Case {
     question: Question::Rows(&REPEATED_ROWS),
 };
 
-/// So many steps that only remembered results make them quick are counted one by one.
+/// Steps are counted exactly, even if they are so many that only a memo table makes them feasible.
 const REMEMBERED: Case = Case {
     spec: FAST,
     options: REMEMBERING,
@@ -176,14 +181,14 @@ const REMEMBERED: Case = Case {
     ]),
 };
 
-/// What a bank has cells for.
+/// The room in a store.
 #[derive(Drop)]
 pub enum Cells {
-    /// No room for the first term.
+    /// Too little for the first EVAL term.
     OfTerm,
-    /// None for its value.
+    /// Too little for its result.
     OfValue,
-    /// For twenty terms in at most so many cells.
+    /// Enough for twenty terms, which then have at most this number of cells.
     AtMost(u32),
 }
 
@@ -208,17 +213,17 @@ const EARLIER_TERMS: Case = Case {
     question: Question::Cells(Cells::AtMost(30)),
 };
 
-/// The second term of the addition alone.
+/// The second EVAL term of the addition.
 const SECOND: [Row; 1] = [(1, 0, End::Value(ONE, 0))];
 
-/// What the specification's term of a number comes to within `n` steps.
+/// Evaluates the EVAL term with index `i` within `n` steps.
 pub fn outcome_of<B: TermBank>(rt: &impl Abort, engine: &mut Engine<B>, i: u32, n: u64) -> Outcome {
     assert!(rt; i < engine.eval_terms());
     let t = engine.eval_term(i).expect(rt, "a term");
     engine.normalise(t, n).expect(rt, "an outcome")
 }
 
-/// The value and its steps; nothing at the limit.
+/// Returns the result and its steps, or `None` if the step limit was exceeded.
 pub fn value_of(outcome: Outcome) -> Option<(Term, u64)> {
     match outcome {
         Outcome::Value { term, steps } => Some((term, steps)),
@@ -226,24 +231,24 @@ pub fn value_of(outcome: Outcome) -> Option<(Term, u64)> {
     }
 }
 
-/// Whether an evaluation ended so.
+/// Returns whether an evaluation ended as expected.
 pub fn has_ended<B: TermBank>(
     rt: &impl Abort,
     alloc: Global,
     bank: &B,
-    outcome: Result<Outcome, DepthFault>,
+    outcome: Result<Outcome, EngineFault>,
     end: &End,
 ) -> bool {
     match outcome {
         Ok(Outcome::Value { term, steps }) => is_value(rt, alloc, bank, (term, steps), end),
         Ok(Outcome::Limit) => matches!(end, End::Limit),
-        Err(DepthFault::Deep) => matches!(end, End::Deep),
-        Err(DepthFault::Room) => matches!(end, End::Room),
-        Err(DepthFault::Memory) => false,
+        Err(EngineFault::Deep) => matches!(end, End::Deep),
+        Err(EngineFault::Room) => matches!(end, End::Room),
+        Err(EngineFault::Memory) => false,
     }
 }
 
-/// Whether this is how an evaluation ends: at a term, in so many steps.
+/// Returns whether an evaluation ends with this term and this number of steps.
 fn is_value<B: TermBank>(
     rt: &impl Abort,
     alloc: Global,
@@ -259,14 +264,14 @@ fn is_value<B: TermBank>(
     }
 }
 
-/// Stops where the term of a number ends otherwise than its row says.
+/// Aborts the test unless an EVAL term ends as its test case states.
 fn expect_row<B: TermBank>(rt: &impl Abort, alloc: Global, engine: &mut Engine<B>, row: &Row) {
     let outcome = outcome_of(rt, engine, row.0, row.1);
     let holds = has_ended(rt, alloc, engine.bank(), Ok(outcome), &row.2);
     assert!(rt; holds, "term {} within {}", row.0, row.1);
 }
 
-/// The same of each row.
+/// Aborts the test unless the EVAL terms end as their test cases state.
 pub fn expect_rows<B: TermBank>(
     rt: &impl Abort,
     alloc: Global,
@@ -278,23 +283,24 @@ pub fn expect_rows<B: TermBank>(
     }
 }
 
-/// Whether the term of a number is over the limit of `n` steps.
+/// Returns whether an EVAL term exceeds the limit of `n` steps.
 pub fn is_over<B: TermBank>(rt: &impl Abort, engine: &mut Engine<B>, i: u32, n: u64) -> bool {
     matches!(outcome_of(rt, engine, i, n), Outcome::Limit)
 }
 
-/// Whether it is that there is no room.
+/// Returns whether the store is full.
 pub fn is_room(fault: Option<EngineFault>) -> bool {
     matches!(fault, Some(EngineFault::Room))
 }
 
-/// Whether there is no room for the first term.
+/// Returns whether the store is too small for the first EVAL term.
 fn has_no_room<B: TermBank>(rt: &impl Abort, engine: &mut Engine<B>) -> bool {
     assert!(rt; engine.eval_terms() > 0);
     is_room(engine.eval_term(0).err())
 }
 
-/// Whether the first term is there and takes so many cells, and there is no room for its value.
+/// Returns whether the first EVAL term is made with this number of cells, and the store is too
+/// small for its result.
 fn has_no_room_for_value<B: TermBank>(
     rt: &impl Abort,
     engine: &mut Engine<B>,
@@ -307,7 +313,7 @@ fn has_no_room_for_value<B: TermBank>(
     is_room(engine.normalise(t, n).err())
 }
 
-/// Evaluates all terms in turn without a step: how many of them are values.
+/// Evaluates all terms in turn without a step, and returns the number of results.
 pub fn count_values<B: TermBank>(rt: &impl Abort, engine: &mut Engine<B>) -> u32 {
     let mut values: u32 = 0;
     for i in 0..engine.eval_terms() {
@@ -318,27 +324,28 @@ pub fn count_values<B: TermBank>(rt: &impl Abort, engine: &mut Engine<B>) -> u32
     values
 }
 
-/// Stops unless there is no room for the first term, and there is for the second one afterwards.
+/// Aborts the test unless the store is too small for the first EVAL term, and large enough for the
+/// second one afterwards.
 fn refuses_term<B: TermBank>(rt: &impl Abort, alloc: Global, engine: &mut Engine<B>) {
     assert!(rt; has_no_room(rt, engine));
     expect_rows(rt, alloc, engine, &SECOND);
 }
 
-/// Stops unless there is room for the first term, not for its value, and for the second term
-/// afterwards.
+/// Aborts the test unless the store is large enough for the first EVAL term, too small for its
+/// result, and large enough for the second one afterwards.
 fn refuses_value<B: TermBank>(rt: &impl Abort, alloc: Global, engine: &mut Engine<B>) {
     assert!(rt; has_no_room_for_value(rt, engine, 8, 3));
     expect_rows(rt, alloc, engine, &SECOND);
 }
 
-/// Evaluates twenty terms, and stops unless all of them are values, and at most so many cells are
-/// in use then.
+/// Evaluates twenty terms. Aborts the test unless all have a result, and at most `at_most` cells
+/// are in use then.
 fn reclaims_earlier_terms<B: TermBank>(rt: &impl Abort, engine: &mut Engine<B>, at_most: u32) {
     assert!(rt; count_values(rt, engine) == 20);
     assert!(rt; engine.bank().cells() <= at_most);
 }
 
-/// Stops where an engine's bank has cells for something else.
+/// Aborts the test unless the engine's store has the expected room.
 pub fn ask<B: TermBank>(rt: &impl Abort, alloc: Global, engine: &mut Engine<B>, cells: &Cells) {
     match cells {
         Cells::OfTerm => refuses_term(rt, alloc, engine),
@@ -347,7 +354,7 @@ pub fn ask<B: TermBank>(rt: &impl Abort, alloc: Global, engine: &mut Engine<B>, 
     }
 }
 
-/// How terms end, and what a bank has cells for.
+/// How terms end, and the room in stores.
 const CASES: [&Case; 12] = [
     &VALUES,
     &CONDITIONS,

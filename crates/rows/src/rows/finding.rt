@@ -1,4 +1,4 @@
-//! Rules that are found for arguments on top of other references.
+//! Tests of the search for rules on a value stack.
 
 ghost use Rattle.std.specs.Prelude.{List, ◌≡◌, ◌≤◌, length};
 ghost use Rattle.rx_term.specs.declared.Term.{Term};
@@ -16,7 +16,7 @@ use rx_term::{Term, TermBank};
 use std::alloc::Global;
 use std::process::Abort;
 
-/// The symbol `f` has number 2. In the first left side two values have to be the same.
+/// The symbol `f` has number 2. The first left-hand side is not left-linear.
 const OVERLAPPING: &[u8] = b"REC-SPEC Overlapping SORTS N \
     CONS a : -> N b : -> N \
     OPNS f : N N -> N \
@@ -24,7 +24,7 @@ const OVERLAPPING: &[u8] = b"REC-SPEC Overlapping SORTS N \
     RULES f(X,X) -> a f(a,Y) -> b f(X,b) -> a f(X,Y) -> b \
     EVAL f(b,a) END-SPEC";
 
-/// The symbol `g` has number 3. In no left side have two values to be the same.
+/// The symbol `g` has number 3. All left-hand sides are left-linear.
 const LINEAR: &[u8] = b"REC-SPEC Linear SORTS N \
     CONS a : -> N b : -> N p : N N -> N \
     OPNS g : N N -> N \
@@ -32,7 +32,7 @@ const LINEAR: &[u8] = b"REC-SPEC Linear SORTS N \
     RULES g(a,X) -> X g(p(X,Y),b) -> Y g(p(X,Y),p(Z,a)) -> Z \
     EVAL g(b,b) END-SPEC";
 
-/// A symbol's number, the rule from which on to look, two arguments, the rule that is found, and
+/// A symbol's number, the first rule that may be found, two arguments, the rule that is found, and
 /// the values of its variables.
 type Row = (
     u32,
@@ -52,7 +52,7 @@ const FROM_A_RULE_ON: [Row; 7] = [
     (2, 0, [b"b", b"a"], Some(3), &[b"b", b"a"]),
 ];
 
-/// In the first tree it is asked for equal values, so a first look finds none.
+/// The first tree compares two values, so the fast path finds nothing.
 const FIRST_RULES: [Row; 4] = [
     (2, 0, [b"a", b"a"], Some(0), &[b"a"]),
     (2, 0, [b"a", b"b"], Some(1), &[b"b"]),
@@ -69,18 +69,18 @@ const FIRST_LINEAR_RULES: [Row; 6] = [
     (3, 0, [b"b", b"a"], None, &[]),
 ];
 
-/// How a rule is searched for.
+/// The kind of search.
 #[derive(Drop)]
 enum Search {
-    /// Among those from one on.
+    /// From a given rule on.
     FromOneOn,
-    /// Among all, by a first look that finds it.
+    /// Among all rules; the fast path finds it.
     AtOnce,
-    /// Among all, by a first look that finds none.
+    /// Among all rules; the fast path does not find it.
     BehindALook,
 }
 
-/// What is asked of a specification's matcher.
+/// A specification, the kind of search, and test cases.
 type Case = (&'static [u8], Search, &'static [Row]);
 
 const CASES: [Case; 3] = [
@@ -89,7 +89,7 @@ const CASES: [Case; 3] = [
     (LINEAR, Search::AtOnce, &FIRST_LINEAR_RULES),
 ];
 
-/// How many arguments a symbol has that is that of a rule.
+/// Returns the number of arguments of a symbol that has a rule.
 fn count_of(rt: &impl Abort, matcher: &Matcher, symbol: u32, rule: u32) -> u32
     ensures { (w : Store) (work : List Term) → AreReady w matcher.now → result ≤ length work
         → CanFind w matcher.now symbol result rule work }
@@ -100,7 +100,7 @@ fn count_of(rt: &impl Abort, matcher: &Matcher, symbol: u32, rule: u32) -> u32
     side.count
 }
 
-/// The first rule of a symbol.
+/// Returns the first rule of a symbol.
 fn first_of(rt: &impl Abort, matcher: &Matcher, symbol: u32) -> u32
     ensures { result ≡ first_rule matcher.now symbol }
 {
@@ -108,7 +108,7 @@ fn first_of(rt: &impl Abort, matcher: &Matcher, symbol: u32) -> u32
     matcher.heads[symbol as usize]
 }
 
-/// A reference, and two arguments on top of it.
+/// Returns a stack of a reference and two arguments.
 fn stack<B: TermBank>(rt: &impl Abort, alloc: Global, bank: &B, terms: [Term; 3]) -> Vec<Term>
     ensures held { AllHeld (B.store bank.now) result.items }
     ensures three { length result.items ≡ 3 }
@@ -120,16 +120,16 @@ fn stack<B: TermBank>(rt: &impl Abort, alloc: Global, bank: &B, terms: [Term; 3]
     Vec::from_slice(alloc, &[below, one, other]).expect(rt, "memory")
 }
 
-/// What is found for arguments that stand above one reference.
+/// The result of a search for arguments above one reference.
 #[derive(Drop)]
 struct Answer {
     rule: Option<u32>,
     values: Vec<Term>,
-    /// Whether the first look found it.
+    /// Whether the fast path found it.
     at_once: bool,
 }
 
-/// What stands in the register of a place.
+/// Returns the value in the register of a position.
 fn value_at(rt: &impl Abort, registers: &[Term], place: Place) -> Term {
     let register = match place {
         Place::First(register) => register,
@@ -139,7 +139,7 @@ fn value_at(rt: &impl Abort, registers: &[Term], place: Place) -> Term {
     registers[register as usize]
 }
 
-/// What stands in registers, which are counted from the first argument on.
+/// Returns the values in registers, which are counted from the first argument on.
 fn read(rt: &impl Abort, places: &[Place], work: &Vec<Term>) -> Vec<Term> {
     assert!(rt; work.len() > 0);
     let (mut values, registers) = (Vec::new(*work.allocator()), &work[1..]);
@@ -149,7 +149,7 @@ fn read(rt: &impl Abort, places: &[Place], work: &Vec<Term>) -> Vec<Term> {
     values
 }
 
-/// The values of what is found.
+/// Returns the values of a rule that was found.
 fn values_of(rt: &impl Abort, matcher: &Matcher, work: &Vec<Term>, hit: Hit) -> Vec<Term> {
     match hit.values {
         Values::OnTop(from) => {
@@ -163,7 +163,8 @@ fn values_of(rt: &impl Abort, matcher: &Matcher, work: &Vec<Term>, hit: Hit) -> 
     }
 }
 
-/// What comes of a search, which leaves the references as they were where it finds nothing.
+/// Returns the result of a search. Aborts the test unless the stack is unchanged if nothing is
+/// found.
 fn answer_of(
     rt: &impl Abort,
     matcher: &Matcher,
@@ -185,7 +186,7 @@ fn answer_of(
     }
 }
 
-/// What is found from a rule on.
+/// Searches from a rule on.
 fn find<B: TermBank>(
     rt: &impl Abort,
     bank: &B,
@@ -215,7 +216,7 @@ fn find<B: TermBank>(
     answer_of(rt, matcher, &work, found, false)
 }
 
-/// What a first look finds, or where it finds nothing, what is found by those that are left.
+/// Searches with the fast path and, if that finds nothing, with the general search.
 fn look<B: TermBank>(
     rt: &impl Abort,
     bank: &B,
@@ -244,7 +245,7 @@ fn look<B: TermBank>(
     }
 }
 
-/// Stops where a rule is found at once that should not be, or not at once though it should be.
+/// Aborts the test unless the fast path finds the rule exactly if it should.
 fn expect_at_once(rt: &impl Abort, answer: &Answer, search: &Search) {
     match search {
         Search::FromOneOn => {}
@@ -253,7 +254,7 @@ fn expect_at_once(rt: &impl Abort, answer: &Answer, search: &Search) {
     }
 }
 
-/// Stops where terms have other texts.
+/// Aborts the test unless terms have these texts.
 fn expect_texts<B: TermBank>(
     rt: &impl Abort,
     alloc: Global,
@@ -267,7 +268,7 @@ fn expect_texts<B: TermBank>(
     }
 }
 
-/// Stops where another rule is found than that of a row, or other values.
+/// Aborts the test unless the rule and the values of a test case are found.
 fn expect_answer<B: TermBank>(
     rt: &impl Abort,
     alloc: Global,
@@ -279,7 +280,7 @@ fn expect_answer<B: TermBank>(
     expect_texts(rt, alloc, bank, &answer.values, row.4);
 }
 
-/// A reference, and the arguments of a row.
+/// Returns a reference, and the arguments of a test case.
 fn terms_of<B: TermBank>(rt: &impl Abort, alloc: Global, bank: &mut B, row: &Row) -> [Term; 3] {
     let below = term_of(rt, alloc, bank, b"below");
     let one = term_of(rt, alloc, bank, row.2[0]);
@@ -287,14 +288,15 @@ fn terms_of<B: TermBank>(rt: &impl Abort, alloc: Global, bank: &mut B, row: &Row
     [below, one, other]
 }
 
-/// A specification, and how its rules are searched for.
+/// A specification, and the kind of search.
 #[derive(Drop)]
 struct Asked<'a> {
     checked: Box<Checked>,
     search: &'a Search,
 }
 
-/// Stops where the matcher of a specification, whose symbols the bank gets, finds something else.
+/// Aborts the test unless the matcher of a specification finds the expected rule. The symbols are
+/// added to the store.
 fn expect_row<B: TermBank>(rt: &impl Abort, alloc: Global, bank: &mut B, asked: &Asked, row: &Row) {
     let terms = terms_of(rt, alloc, bank, row);
     let matcher = build(rt, alloc, bank, &asked.checked);
@@ -307,12 +309,12 @@ fn expect_row<B: TermBank>(rt: &impl Abort, alloc: Global, bank: &mut B, asked: 
     expect_answer(rt, alloc, bank, &answer, row);
 }
 
-/// The same in a bank of its own.
+/// Tests a test case in a new store.
 fn expect_row_alone(rt: &impl Abort, alloc: Global, asked: &Asked, row: &Row) {
     expect_row(rt, alloc, &mut *shared_box(rt, alloc, 100), asked, row);
 }
 
-/// The same of each row.
+/// Tests the test cases of a specification.
 fn expect_case(rt: &impl Abort, alloc: Global, case: &Case) {
     let asked = Asked {
         checked: checked_box(rt, alloc, case.0),

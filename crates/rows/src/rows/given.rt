@@ -1,4 +1,4 @@
-//! The rules of given terms, row by row, and their letters.
+//! Tests of the well-formedness rules of input terms, and of their postfix items.
 
 use crate::rows::banks::{plain_box, term_of};
 use crate::rows::texts::{ADD, Nest, Q, checked_box, expect};
@@ -10,14 +10,14 @@ use std::process::Abort;
 /// A constant whose name is quoted in terms, and an operator with arguments of two sorts.
 const TWO: &str = "REC-SPEC Two SORTS A B CONS 0 : -> A b : -> B OPNS g : A B -> A EVAL 0 END-SPEC";
 
-/// A specification, terms, and the number of the rule that they break.
+/// A specification, input terms, and the number of the violated rule.
 type Row = (&'static str, &'static str, Option<u8>);
 
 const BROKEN: [Row; 16] = [
-    // no list
+    // not a list
     (Q, "a", Some(1)),
     (Q, "[a]{a}", Some(1)),
-    // no application
+    // not an application
     (Q, "[f(a),3]", Some(2)),
     (Q, "[a{a},<a>]", Some(2)),
     (Q, "[g(1)]", Some(2)),
@@ -30,10 +30,10 @@ const BROKEN: [Row; 16] = [
     (Q, "[\"a\"]", Some(4)),
     (Q, "[X]", Some(4)),
     (Q, "[\"a-b\"]", Some(4)),
-    // ill filled
+    // wrong number of arguments
     (Q, "[f(a,a)]", Some(5)),
     (Q, "[f]", Some(5)),
-    // ill sorted
+    // wrong sort
     (Q, "[f(b)]", Some(6)),
     (TWO, "[g(\"0\",\"0\")]", Some(6)),
 ];
@@ -48,7 +48,7 @@ const KEPT: [Row; 7] = [
     (TWO, "[g(\"0\",b)]", None),
 ];
 
-/// Terms, and how many of them stand before the first that alone breaks the rule that they break.
+/// Input terms, and the index of the first that alone violates the rule that the list violates.
 type First = (&'static str, Option<usize>);
 
 const FIRST: [First; 9] = [
@@ -63,7 +63,7 @@ const FIRST: [First; 9] = [
     ("3", None),
 ];
 
-/// A list of one term, `f` of `f` of and so on.
+/// A list of one term of nested symbols `f`.
 const DEEP: Nest = Nest {
     before: b"[",
     open: b"f(",
@@ -73,7 +73,8 @@ const DEEP: Nest = Nest {
     depth: 2000,
 };
 
-/// The number of the rule that terms break, in this bank; 0 stands for want of memory.
+/// Returns the number of the rule that input terms violate, in this store. The number 0 means out
+/// of memory.
 fn broken_in<B: TermBank>(
     rt: &impl Abort,
     alloc: Global,
@@ -90,7 +91,7 @@ fn broken_in<B: TermBank>(
     }
 }
 
-/// The same, in a bank of its own.
+/// Returns the number of the rule that input terms violate, in a new store.
 fn broken_rule(rt: &impl Abort, alloc: Global, checked: &Checked, terms: &[u8]) -> Option<u8> {
     broken_in(
         rt,
@@ -101,13 +102,13 @@ fn broken_rule(rt: &impl Abort, alloc: Global, checked: &Checked, terms: &[u8]) 
     )
 }
 
-/// The same of the terms beside the text of a specification.
+/// Returns the number of the rule that input terms for the text of a specification violate.
 fn broken_beside(rt: &impl Abort, alloc: Global, spec: &str, terms: &[u8]) -> Option<u8> {
     let checked = checked_box(rt, alloc, spec.as_bytes());
     broken_rule(rt, alloc, &checked, terms)
 }
 
-/// Stops where terms break another rule than their row has.
+/// Aborts the test unless input terms violate the rule of their test case.
 fn expect_rows(rt: &impl Abort, alloc: Global, rows: &[Row]) {
     for (spec, terms, wanted) in rows {
         let found = broken_beside(rt, alloc, spec, terms.as_bytes());
@@ -127,7 +128,7 @@ fn deep(rt: HostRuntime) {
     assert!(rt; broken_beside(&rt, rt.alloc(), Q, &terms) == None);
 }
 
-/// How many terms stand before the first that alone breaks the rule that they break.
+/// Returns the index of the first term that alone violates the rule that the list violates.
 fn first_broken<B: TermBank>(
     rt: &impl Abort,
     alloc: Global,
@@ -140,7 +141,7 @@ fn first_broken<B: TermBank>(
     broken_element(alloc, checked, bank, list).expect(rt, "an answer")
 }
 
-/// Stops where another number of terms than their row has stands before the first that is broken.
+/// Aborts the test unless this index is the one of the test case.
 fn expect_first<B: TermBank>(rt: &impl Abort, alloc: Global, checked: &Checked, bank: &mut B) {
     for (terms, wanted) in &FIRST {
         let found = first_broken(rt, alloc, checked, bank, terms.as_bytes());
@@ -148,15 +149,15 @@ fn expect_first<B: TermBank>(rt: &impl Abort, alloc: Global, checked: &Checked, 
     }
 }
 
-/// Two sums of the addition, the second one a constant alone.
+/// Two input terms for the addition: a sum, and a constant.
 const SUMS: &[u8] = b"[plus(s(z),z),z{3}]";
 
-/// The symbols of each, and how many arguments they have.
+/// The symbols of the sum in postfix form, with their numbers of arguments.
 const SUM: [(u32, u32); 4] = [(0, 0), (1, 1), (0, 0), (2, 2)];
 
 const CONSTANT: [(u32, u32); 1] = [(0, 0)];
 
-/// The letters of the sums.
+/// Returns the postfix items of the input terms.
 fn letters_of<B: TermBank>(
     rt: &impl Abort,
     alloc: Global,
@@ -169,7 +170,7 @@ fn letters_of<B: TermBank>(
     term_letters(alloc, checked, bank, list).expect(rt, "letters")
 }
 
-/// Whether letters are these symbols with so many arguments.
+/// Returns whether items are these symbols with these numbers of arguments.
 fn are_symbols(letters: &[Letter], symbols: &[(u32, u32)]) -> bool {
     if letters.len() != symbols.len() {
         return false;
@@ -193,14 +194,14 @@ fn expect_sums<B: TermBank>(rt: &impl Abort, alloc: Global, checked: &Checked, b
     expect_letters(rt, &terms);
 }
 
-/// What else is asked of a specification.
+/// The subject of another test of a specification.
 #[derive(Drop)]
 enum Question {
     First,
     Letters,
 }
 
-/// Stops where a specification answers otherwise.
+/// Aborts the test unless a specification behaves as expected.
 fn ask(rt: &impl Abort, alloc: Global, checked: &Checked, question: &Question) {
     let bank = &mut *plain_box(rt, alloc, 1000);
     match question {
@@ -209,7 +210,7 @@ fn ask(rt: &impl Abort, alloc: Global, checked: &Checked, question: &Question) {
     }
 }
 
-/// The same of the text of a specification.
+/// Tests the text of a specification.
 fn ask_spec(rt: &impl Abort, alloc: Global, spec: &str, question: &Question) {
     let checked = checked_box(rt, alloc, spec.as_bytes());
     ask(rt, alloc, &checked, question);

@@ -1,5 +1,4 @@
-//! What is made on top of a vector of references that the caller lends, and asked with such a
-//! vector as room.
+//! Tests of the engine's functions that use a stack or a buffer of the caller.
 
 ghost use Rattle.std.specs.Prelude.{◌≡◌, ◌∷◌, []};
 
@@ -12,7 +11,7 @@ use smallvec::SmallVec;
 use std::alloc::Global;
 use std::process::Abort;
 
-/// A stack of a value and two more above it.
+/// Returns a stack of a value and two more above it.
 fn stack_of(rt: &impl Abort, alloc: Global, below: Term, above: (Term, Term)) -> Vec<Term>
     ensures { result.items ≡ below ∷ above.0 ∷ above.1 ∷ [] }
 {
@@ -23,12 +22,12 @@ fn stack_of(rt: &impl Abort, alloc: Global, below: Term, above: (Term, Term)) ->
     stack
 }
 
-/// Stops where a stack has other values.
+/// Aborts the test unless a stack has these values.
 fn expect_terms(rt: &impl Abort, stack: &[Term], values: &[Term]) {
     assert!(rt; stack == values);
 }
 
-/// Makes the sum of the two upper values of a stack in their place.
+/// Replaces the two upper values of a stack by their sum.
 fn add_on<B: TermBank>(
     rt: &impl Abort,
     engine: &mut Engine<B>,
@@ -45,7 +44,7 @@ fn add_on<B: TermBank>(
         .expect(rt, "an application");
 }
 
-/// The sum of two values, made on top of another one, which stays.
+/// Makes the sum of two values above another one, which stays.
 fn add_above<B: TermBank>(
     rt: &impl Abort,
     alloc: Global,
@@ -59,7 +58,7 @@ fn add_above<B: TermBank>(
     sum
 }
 
-/// The list of a value that stands twice above another one of a stack.
+/// Makes the list of a value that is on the stack twice, above another value.
 fn list_on<B: TermBank>(
     rt: &impl Abort,
     engine: &mut Engine<B>,
@@ -73,7 +72,7 @@ fn list_on<B: TermBank>(
     engine.hold_on(stack, 1, empty).expect(rt, "a list")
 }
 
-/// The list of a value, made on top of a stack of that and of another one, which stays as it is.
+/// Makes the list of a value, on a stack of that value and another one, which stays unchanged.
 fn list_above<B: TermBank>(
     rt: &impl Abort,
     alloc: Global,
@@ -86,7 +85,7 @@ fn list_above<B: TermBank>(
     list
 }
 
-/// The first rule that matches a term, asked with a vector that holds something.
+/// Returns the first rule that matches a term, with a buffer that is not empty.
 fn rule_with_room<B: TermBank>(
     rt: &impl Abort,
     alloc: Global,
@@ -102,7 +101,7 @@ fn rule_with_room<B: TermBank>(
         .expect(rt, "an answer")
 }
 
-/// Stops where a term of the addition that is made so has another text, or another rule matches it.
+/// Aborts the test unless a term that is made this way has the expected text and rule.
 pub fn makes_values_on<B: TermBank>(rt: &impl Abort, alloc: Global, engine: &mut Engine<B>) {
     let empty = engine.nil().expect(rt, "the empty list");
     let zero = constant(rt, engine, empty, ZERO);

@@ -1,4 +1,4 @@
-//! The symbols of specifications in a bank.
+//! Tests of symbol maps.
 
 ghost use Rattle.std.specs.Prelude.{◌≡◌, length};
 ghost use Rattle.rec_sorts.specs.Lookup.{symbols};
@@ -13,14 +13,14 @@ use std::process::Abort;
 
 const PRIMED: &str = "REC-SPEC P SORTS A CONS x' : -> A EVAL x' END-SPEC";
 
-/// The symbols of a specification in a bank.
+/// Returns the symbol map of a specification for a store.
 fn link(rt: &impl Abort, alloc: Global, checked: &Checked, bank: &mut PlainBank) -> Links
     ensures { length result ≡ length (symbols checked.now.spec) }
 {
     Links::make(alloc, checked, bank).expect(rt, "links")
 }
 
-/// Stops where the symbol of a number is another one, or the number of that.
+/// Aborts the test unless the symbol map relates this number and this symbol.
 fn expect_number(rt: &impl Abort, checked: &Checked, links: &Links, number: u32, symbol: Symbol)
     requires { length links.now ≡ length (symbols checked.now.spec) }
 {
@@ -29,7 +29,8 @@ fn expect_number(rt: &impl Abort, checked: &Checked, links: &Links, number: u32,
     assert!(rt; links.op_of(symbol) == Some(number));
 }
 
-/// Stops where the symbols of the addition have other numbers; the bank has them without cells.
+/// Aborts the test unless the symbols of the addition have the expected numbers. They take no
+/// cells.
 fn expect_addition(rt: &impl Abort, checked: &Checked, links: &Links, bank: &mut PlainBank)
     requires { length links.now ≡ length (symbols checked.now.spec) }
 {
@@ -47,27 +48,28 @@ fn link_addition(rt: &impl Abort, alloc: Global, checked: &Checked, bank: &mut P
     expect_addition(rt, checked, &links, bank);
 }
 
-/// The symbol of a name that is quoted since no plain one is like it.
+/// Tests the symbol of a name that is quoted since it is not plain.
 fn link_primed(rt: &impl Abort, alloc: Global, checked: &Checked, bank: &mut PlainBank) {
     let links = link(rt, alloc, checked, bank);
     let primed = bank.symbol(b"x'", true, 0).expect(rt, "a symbol");
     expect_number(rt, checked, &links, 0, primed);
 }
 
-/// Symbols of another arity, which is there before those of the addition, and of a quoted name.
+/// Tests symbols that are not in the specification: one with another arity, which is made before
+/// those of the addition, and one with a quoted name.
 fn link_foreign(rt: &impl Abort, alloc: Global, checked: &Checked, bank: &mut PlainBank) {
     let unary = bank.symbol(b"plus", false, 1).expect(rt, "a symbol");
     let links = link(rt, alloc, checked, bank);
     expect_none(rt, &links, bank, unary);
 }
 
-/// Stops where a symbol, or that of a quoted name, is one of a specification.
+/// Aborts the test if a symbol, or that of a quoted name, is one of the specification.
 fn expect_none(rt: &impl Abort, links: &Links, bank: &mut PlainBank, unary: Symbol) {
     let quoted = bank.symbol(b"z", true, 0).expect(rt, "a symbol");
     assert!(rt; links.op_of(unary).is_none() && links.op_of(quoted).is_none());
 }
 
-/// Which symbols are linked.
+/// The subject of a test of symbol maps.
 #[derive(Drop)]
 enum Linked {
     Addition,
@@ -75,7 +77,7 @@ enum Linked {
     Foreign,
 }
 
-/// Stops where symbols of a specification have other numbers.
+/// Aborts the test unless the symbols of a specification have the expected numbers.
 fn expect_linked(rt: &impl Abort, alloc: Global, checked: &Checked, linked: &Linked) {
     let bank = &mut *plain_box(rt, alloc, 10);
     match linked {
@@ -85,7 +87,7 @@ fn expect_linked(rt: &impl Abort, alloc: Global, checked: &Checked, linked: &Lin
     }
 }
 
-/// The same of the text of a specification.
+/// Tests the text of a specification.
 fn expect_spec(rt: &impl Abort, alloc: Global, spec: &str, linked: &Linked) {
     let checked = checked_box(rt, alloc, spec.as_bytes());
     expect_linked(rt, alloc, &checked, linked);

@@ -1,4 +1,4 @@
-//! The least rule for terms.
+//! Tests of the search for the first rule that matches a term.
 
 ghost use Rattle.std.specs.Prelude.{IsSome};
 ghost use Rattle.rx_term.specs.Store.{tree_at};
@@ -25,8 +25,8 @@ const OVL: &[u8] = b"REC-SPEC Ovl SORTS N \
     RULES f(X,X) -> a f(a,Y) -> b f(X,b) -> a f(X,Y) -> b \
     EVAL f(b,a) END-SPEC";
 
-/// The symbol `g` has number 3. Its argument is a pair in each left side but the last, where it is
-/// a variable.
+/// The symbol `g` has number 3. Its argument is a pair in each left-hand side but the last, where
+/// it is a variable.
 const PAIRS: &[u8] = b"REC-SPEC Pairs SORTS N \
     CONS a : -> N b : -> N p : N N -> N \
     OPNS g : N -> N \
@@ -34,8 +34,8 @@ const PAIRS: &[u8] = b"REC-SPEC Pairs SORTS N \
     RULES g(p(X,X)) -> a g(p(a,Y)) -> b g(p(X,b)) -> a g(p(Y,X)) -> b g(X) -> a \
     EVAL g(b) END-SPEC";
 
-/// A term's text, the least rule that may be told, the rule that is, and which of its values are
-/// the term `a`.
+/// A term's text, the first rule that may be found, the rule that is found, and whether each of its
+/// values is the term `a`.
 type Row = (&'static str, u32, Option<u32>, &'static [bool]);
 
 const OVERLAPPING: [Row; 11] = [
@@ -91,26 +91,26 @@ const WIDE: [Row; 3] = [
     ),
 ];
 
-/// Of 200 constants.
+/// Test cases for 200 constants.
 const CASES: [Row; 3] = [
     ("k(c0)", 0, Some(0), &[]),
     ("k(c199)", 0, Some(199), &[]),
     ("k(a)", 0, None, &[]),
 ];
 
-/// Of 5,000 constants.
+/// Test cases for 5,000 constants.
 const MANY_CASES: [Row; 2] = [("k(c4999)", 0, Some(4999), &[]), ("k(a)", 0, None, &[])];
 
-/// What stands before the variables of `w`.
+/// The specification before the variables of `w`.
 const HEAD_OF_WIDE: &[u8] = b"REC-SPEC Wide SORTS N \
     CONS a : -> N b : -> N \
     OPNS w : N N N N N N N N N N N N N N N N N N N N -> N \
     VARS";
 
-/// What stands before the constants of `k`.
+/// The specification before the constants of `k`.
 const HEAD_OF_CASES: &[u8] = b"REC-SPEC Cases SORTS N CONS a : -> N";
 
-/// The symbols of a specification in a bank.
+/// Adds the symbols of a specification to a store.
 fn link<B: TermBank>(rt: &impl Abort, alloc: Global, bank: &mut B, checked: &Checked) -> Links
     ensures linked { AreLinked checked.now.spec (B.store bank.new) result }
     ensures same { HasMoreSymbols (B.store bank.old) (B.store bank.new) }
@@ -118,7 +118,7 @@ fn link<B: TermBank>(rt: &impl Abort, alloc: Global, bank: &mut B, checked: &Che
     Links::make(alloc, checked, bank).expect(rt, "links")
 }
 
-/// The matcher of a checked specification, whose symbols the bank gets.
+/// Builds the matcher of a checked specification. Its symbols are added to the store.
 pub fn build<B: TermBank>(
     rt: &impl Abort,
     alloc: Global,
@@ -133,7 +133,7 @@ pub fn build<B: TermBank>(
     Box::new(alloc, matcher).expect(rt, "memory")
 }
 
-/// Whether just these of some terms are one.
+/// Returns whether exactly the terms with these flags are `one`.
 fn are(one: Term, terms: &[Term], wanted: &[bool]) -> bool {
     if terms.len() != wanted.len() {
         return false;
@@ -146,7 +146,7 @@ fn are(one: Term, terms: &[Term], wanted: &[bool]) -> bool {
     true
 }
 
-/// Stops where the matcher tells another rule of a term from a rule on, or other values.
+/// Aborts the test unless the matcher finds this rule, from a rule on, with these values.
 fn expect_answer<B: TermBank>(
     rt: &impl Abort,
     alloc: Global,
@@ -167,8 +167,7 @@ fn expect_answer<B: TermBank>(
     assert!(rt; holds, "{} from {}", row.0, row.1);
 }
 
-/// Stops where the matcher of a specification, whose symbols the bank gets, says something else of
-/// a row's term.
+/// Aborts the test unless the matcher of a specification finds the rule of a test case.
 fn expect_row<B: TermBank>(
     rt: &impl Abort,
     alloc: Global,
@@ -183,7 +182,7 @@ fn expect_row<B: TermBank>(
     expect_answer(rt, alloc, bank, &matcher, a, u, row);
 }
 
-/// A bank of 100 cells that counts how often its nodes are read.
+/// Returns a store of 100 cells that counts how often a node is read.
 fn counting(rt: &impl Abort, alloc: Global) -> Box<Counting<PlainBank>> {
     let counting = Counting {
         bank: plain_bank(rt, alloc, 100),
@@ -192,14 +191,14 @@ fn counting(rt: &impl Abort, alloc: Global) -> Box<Counting<PlainBank>> {
     Box::new(alloc, counting).expect(rt, "memory")
 }
 
-/// The same in a bank of its own, of whose nodes few are read.
+/// Tests a test case in a new store, and that few nodes are read.
 fn expect_row_alone(rt: &impl Abort, alloc: Global, checked: &Checked, row: &Row) {
     let mut bank = counting(rt, alloc);
     expect_row(rt, alloc, &mut *bank, checked, row);
     expect(rt, bank.reads.get() < 100, row.0);
 }
 
-/// The same of each row, and of the text of a specification.
+/// Tests the test cases of a specification.
 fn expect_rows(rt: &impl Abort, alloc: Global, spec: &[u8], rows: &[Row]) {
     let checked = checked_box(rt, alloc, spec);
     for row in rows {
@@ -214,7 +213,7 @@ fn overlapping_rules(rt: HostRuntime) {
     expect_rows(&rt, rt.alloc(), OVL, &UNMATCHED);
 }
 
-/// How many trees a matcher has for the symbol of a number.
+/// Returns the number of trees for the symbol with this number.
 fn trees_of(matcher: &Matcher, number: usize) -> usize {
     match matcher.forest.roots.get(number) {
         Some(roots) => roots.len(),
@@ -222,7 +221,7 @@ fn trees_of(matcher: &Matcher, number: usize) -> usize {
     }
 }
 
-/// The same of the matcher of a checked specification.
+/// Returns the number of trees in the matcher of a checked specification.
 fn trees_in(rt: &impl Abort, alloc: Global, checked: &Checked, number: usize) -> usize {
     trees_of(
         &build(rt, alloc, &mut *counting(rt, alloc), checked),
@@ -230,14 +229,14 @@ fn trees_in(rt: &impl Abort, alloc: Global, checked: &Checked, number: usize) ->
     )
 }
 
-/// The same of the text of a specification.
+/// Returns the number of trees in the matcher of a text.
 fn trees(rt: &impl Abort, alloc: Global, spec: &[u8], number: usize) -> usize {
     let checked = checked_box(rt, alloc, spec);
     trees_in(rt, alloc, &checked, number)
 }
 
-/// The rules of pairs have one tree. The symbol `w` has number 2, and for it one tree would have a
-/// leaf for each set of its arguments.
+/// The rules of pairs have one tree. The symbol `w` has number 2; one tree for it would have a leaf
+/// for each set of its arguments.
 #[test]
 fn trees_of_rules(rt: HostRuntime) {
     assert!(rt; trees(&rt, rt.alloc(), PAIRS, 3) == 1);
@@ -245,12 +244,13 @@ fn trees_of_rules(rt: HostRuntime) {
     assert!(rt; trees(&rt, rt.alloc(), &spec, 2) == 20);
 }
 
-/// Adds a number between two texts.
+/// Appends a number between two texts.
 fn push_number(rt: &impl Abort, text: &mut Vec<u8>, before: &str, number: u32, behind: &str) {
     assert!(rt; write!(text, "{before}{number}{behind}").is_ok());
 }
 
-/// A rule of the operator `w`, whose left side has `a` at one place and variables at the others.
+/// Appends a rule of the operator `w`, whose left-hand side has `a` at one position and variables
+/// at the others.
 fn push_rule(rt: &impl Abort, text: &mut Vec<u8>, place: u32) {
     for i in 1..=20 {
         push(rt, text, if i == 1 { b" w(" } else { b"," });
@@ -263,7 +263,7 @@ fn push_rule(rt: &impl Abort, text: &mut Vec<u8>, place: u32) {
     push(rt, text, b") -> b");
 }
 
-/// A specification of an operator `w` with 20 arguments and a rule for each of them.
+/// Returns a specification of an operator `w` with 20 arguments and a rule for each of them.
 fn wide(rt: &impl Abort, alloc: Global) -> Vec<u8> {
     let mut text = Vec::from_slice(alloc, HEAD_OF_WIDE).expect(rt, "memory");
     for i in 1..=20 {
@@ -283,7 +283,7 @@ fn a_rule_for_each_argument(rt: HostRuntime) {
     expect_rows(&rt, rt.alloc(), &spec, &WIDE);
 }
 
-/// A specification of an operator `k` with a rule for each of so many constants.
+/// Returns a specification of an operator `k` with a rule for each of `count` constants.
 fn cases(rt: &impl Abort, alloc: Global, count: u32) -> Vec<u8> {
     let mut text = Vec::from_slice(alloc, HEAD_OF_CASES).expect(rt, "memory");
     for i in 0..count {
@@ -297,7 +297,7 @@ fn cases(rt: &impl Abort, alloc: Global, count: u32) -> Vec<u8> {
     text
 }
 
-/// Stops where the matcher of such a specification says something else of its rows' terms.
+/// Aborts the test unless the matcher of such a specification finds the expected rules.
 fn expect_cases(rt: &impl Abort, alloc: Global, count: u32, rows: &[Row]) {
     let spec = cases(rt, alloc, count);
     expect_rows(rt, alloc, &spec, rows);

@@ -1,4 +1,4 @@
-//! What an engine counts of its evaluations, and whom it tells of them.
+//! Tests of the counters of an engine, and of progress reports.
 
 use crate::rows::cases::{ANEW, Bank, Case, OPTIONS, Question, REMEMBERING, expect_cases};
 use crate::rows::engine::{
@@ -6,7 +6,7 @@ use crate::rows::engine::{
     expect_rows, has_ended,
 };
 use crate::rows::texts::expect;
-use rec_engine::{DepthFault, Engine, EngineFault, Outcome, RuleCount, Tally, Watch};
+use rec_engine::{Engine, EngineFault, Limits, Outcome, RuleCount, Tally, Watch};
 use rx_term::TermBank;
 use std::alloc::Global;
 use std::process::Abort;
@@ -19,20 +19,20 @@ const TURNS: &[u8] = b"REC-SPEC Turns SORTS N \
     RULES f(z) -> f(s(z)) f(s(X)) -> f(X) \
     EVAL f(z) END-SPEC";
 
-/// Four times as many steps as there are between two tellings.
+/// Four times the number of steps between two progress reports.
 const LONG: u64 = 262_144;
 
-/// How often a rule matched, fired and failed.
+/// The numbers of matches, rewrites and failed conditions of a rule.
 type Count = (u64, u64, u64);
 
-/// Notes what it is told.
+/// An observer that records the reports.
 #[derive(Drop)]
 struct Witness {
     told: u32,
     ceased: u32,
-    /// The steps that were left when it was told last.
+    /// The steps left in the last report.
     left: u64,
-    /// Whether each time fewer steps were left than before, and the bank had cells.
+    /// Whether each report had fewer steps left than the one before, and the store had cells.
     goes_on: bool,
 }
 
@@ -48,7 +48,7 @@ impl Watch for Witness {
     }
 }
 
-/// Nothing was told so far.
+/// No report so far.
 const NOTHING: Witness = Witness {
     told: 0,
     ceased: 0,
@@ -56,7 +56,7 @@ const NOTHING: Witness = Witness {
     goes_on: true,
 };
 
-/// The most steps of the sum, how many calls may wait where that is said, and how it ends then.
+/// The step limit of the sum, the call-depth limit if there is one, and how the evaluation ends.
 pub type Told = (u64, Option<u32>, End);
 
 const ENDS: [Told; 5] = [
@@ -67,34 +67,23 @@ const ENDS: [Told; 5] = [
     (2, Some(2), End::Deep),
 ];
 
-/// In a bank that is full of the term.
+/// In a store that is full of the term.
 const ENDS_WITHOUT_ROOM: [Told; 2] = [(5, None, End::Room), (5, Some(3), End::Room)];
 
-/// The same fault where it is said how many calls may wait.
-fn depth_fault(fault: EngineFault) -> DepthFault {
-    match fault {
-        EngineFault::Memory => DepthFault::Memory,
-        EngineFault::Room => DepthFault::Room,
-    }
-}
-
-/// What the first term comes to within `n` steps, before a witness.
+/// Evaluates the first EVAL term within `n` steps, with a witness.
 fn watch_first<B: TermBank>(
     rt: &impl Abort,
     engine: &mut Engine<B>,
     n: u64,
     depth: Option<u32>,
     witness: &mut Witness,
-) -> Result<Outcome, DepthFault> {
+) -> Result<Outcome, EngineFault> {
     assert!(rt; engine.eval_terms() > 0);
     let t = engine.eval_term(0).expect(rt, "a term");
-    match depth {
-        Some(depth) => engine.normalise_within_watched(t, n, depth, witness),
-        None => engine.normalise_watched(t, n, witness).map_err(depth_fault),
-    }
+    engine.normalise_with(t, Limits { steps: n, depth }, witness)
 }
 
-/// Stops unless the sum ends as a row says, and a witness hears of that once.
+/// Aborts the test unless the sum ends as expected, and a witness is notified once.
 fn expect_end<B: TermBank>(rt: &impl Abort, alloc: Global, engine: &mut Engine<B>, row: &Told) {
     let mut witness = NOTHING;
     let outcome = watch_first(rt, engine, row.0, row.1, &mut witness);
@@ -102,14 +91,14 @@ fn expect_end<B: TermBank>(rt: &impl Abort, alloc: Global, engine: &mut Engine<B
     assert!(rt; holds, "{} steps, {:?} calls", row.0, row.1);
 }
 
-/// The same of each row.
+/// Aborts the test unless the sum ends as each test case states, and a witness is notified once.
 fn expect_told<B: TermBank>(rt: &impl Abort, alloc: Global, engine: &mut Engine<B>, rows: &[Told]) {
     for row in rows {
         expect_end(rt, alloc, engine, row);
     }
 }
 
-/// Stops unless a witness hears each 65,536 rules of a term without an end.
+/// Aborts the test unless a witness is notified after each 65,536 matches of a term without an end.
 fn hears_of_rules<B: TermBank>(rt: &impl Abort, engine: &mut Engine<B>) {
     let mut witness = NOTHING;
     let outcome = watch_first(rt, engine, LONG, None, &mut witness);
@@ -117,7 +106,7 @@ fn hears_of_rules<B: TermBank>(rt: &impl Abort, engine: &mut Engine<B>) {
     assert!(rt; is_limit && witness.told == 4 && witness.ceased == 1 && witness.goes_on);
 }
 
-/// Stops unless so many rules matched, fired and failed as the rows say, and no others are there.
+/// Aborts the test unless the rules have exactly these counts.
 fn expect_counts(rt: &impl Abort, counts: &[RuleCount], rows: &[Count]) {
     assert!(rt; counts.len() == rows.len());
     for (count, row) in counts.iter().zip(rows) {
@@ -128,11 +117,11 @@ fn expect_counts(rt: &impl Abort, counts: &[RuleCount], rows: &[Count]) {
     }
 }
 
-/// Two rules took half of the steps each.
+/// Two rules spent half of the steps each.
 const IN_TURN: [Count; 2] = [(LONG / 2, LONG / 2, 0), (LONG / 2, LONG / 2, 0)];
 
 /// `f(z)` takes five steps: the first rule's, one in its condition, which fails, the second rule's,
-/// one in its condition and one behind it.
+/// one in its condition and one after it.
 const FIRST: [Row; 1] = [(0, 9, End::Value(TWO, 5))];
 
 const OF_FIRST: [Count; 4] = [(1, 0, 1), (1, 1, 0), (3, 3, 0), (0, 0, 0)];
@@ -142,19 +131,19 @@ const SECOND: [Row; 1] = [(1, 9, End::Value(ONE, 2))];
 
 const OF_BOTH: [Count; 4] = [(2, 1, 1), (1, 1, 0), (3, 3, 0), (1, 1, 0)];
 
-/// Behind one step of `f(z)` there is none left for the condition.
+/// After one step of `f(z)` none is left for the condition.
 const BROKEN_OFF: [Row; 1] = [(0, 1, End::Limit)];
 
 const OF_ALL: [Count; 4] = [(3, 1, 1), (1, 1, 0), (3, 3, 0), (1, 1, 0)];
 
 const OF_NONE: [Count; 4] = [(0, 0, 0); 4];
 
-/// Each `k` is called twice where nothing is remembered.
+/// Each `k` is called twice without a memo table.
 const REPEATED: [Row; 1] = [(0, 9, End::Value(PAIR, 7))];
 
 const OF_REPEATED: [Count; 3] = [(2, 2, 0), (4, 4, 0), (1, 1, 0)];
 
-/// How often rules matched.
+/// Returns the number of matches.
 fn match_count(counts: &[RuleCount]) -> u64 {
     let mut sum: u64 = 0;
     for count in counts {
@@ -165,7 +154,7 @@ fn match_count(counts: &[RuleCount]) -> u64 {
 
 const LONGEST: [Row; 1] = [(0, FAST_STEPS, End::Value(ZERO, FAST_STEPS))];
 
-/// Whether the steps of rules that matched and those that results stand for are all steps.
+/// Returns whether the steps of matches and of memoized results are all steps.
 fn are_all_steps(tally: &Tally, counts: &[RuleCount]) -> bool {
     tally.steps == FAST_STEPS
         && tally.remembered > 0
@@ -173,20 +162,20 @@ fn are_all_steps(tally: &Tally, counts: &[RuleCount]) -> bool {
         && match_count(counts) == FAST_STEPS - tally.saved
 }
 
-/// What an engine did by now.
+/// The expected counters of an engine.
 #[derive(Drop)]
 pub enum Done {
-    /// So many steps, none of them by a remembered result.
+    /// This number of steps, none of them by a memoized result.
     Steps(u64),
-    /// All steps of the longest evaluation, some by remembered results.
+    /// All steps of the longest evaluation, some of them by memoized results.
     Remembered,
-    /// No step; so many cells were made, and none is given back.
+    /// No step; this number of cells was made, and none was freed.
     Cells(u32),
-    /// At least so many were made, and at most so many were there at once.
+    /// At least the first number of cells was made, and at most the second was in use at once.
     Reclaims(u32, u32),
 }
 
-/// Whether an engine did that by now.
+/// Returns whether an engine has these counters.
 fn has_done<B: TermBank>(engine: &Engine<B>, done: &Done) -> bool {
     let tally = engine.tally();
     match done {
@@ -207,26 +196,26 @@ fn has_done<B: TermBank>(engine: &Engine<B>, done: &Done) -> bool {
     }
 }
 
-/// What is done with an engine, or asked of it.
+/// A step of a test.
 #[derive(Drop)]
 pub enum Step {
     /// How evaluations of the sum end.
     Ends(&'static [Told]),
-    /// What a witness hears of a term without an end.
+    /// The reports about a term without an end.
     LongTerm,
     /// How terms end.
     Rows(&'static [Row]),
-    /// From here on rules are counted.
+    /// Rules are counted from here on.
     Count,
-    /// How often each rule was used; of no rule where that is not counted.
+    /// The counts of the rules; none if rules are not counted.
     Counts(&'static [Count]),
-    /// How many terms are values without a step.
+    /// The number of terms that have a result without a step.
     Values(u32),
-    /// What else was counted, and when that is.
+    /// The expected counters, with a name for the failure message.
     Done(&'static str, Done),
 }
 
-/// Stops where a step of an engine comes to something else.
+/// Aborts the test unless a step has the expected result.
 fn take_step<B: TermBank>(rt: &impl Abort, alloc: Global, engine: &mut Engine<B>, step: &Step) {
     match step {
         Step::Ends(rows) => expect_told(rt, alloc, engine, rows),
@@ -239,14 +228,14 @@ fn take_step<B: TermBank>(rt: &impl Abort, alloc: Global, engine: &mut Engine<B>
     }
 }
 
-/// The same of each step.
+/// Runs all steps of a test.
 pub fn ask<B: TermBank>(rt: &impl Abort, alloc: Global, engine: &mut Engine<B>, steps: &[Step]) {
     for step in steps {
         take_step(rt, alloc, engine, step);
     }
 }
 
-/// A witness hears the same where rules are counted and where they aren't.
+/// A witness gets the same reports with and without counted rules.
 const LONG_TERM: [Step; 6] = [
     Step::LongTerm,
     Step::Counts(&[]),
@@ -256,8 +245,8 @@ const LONG_TERM: [Step; 6] = [
     Step::Done("behind two long terms", Done::Steps(2 * LONG)),
 ];
 
-/// Rules are counted as soon as that is asked for, and from nothing when it is asked for once
-/// more; steps are counted from the beginning.
+/// Rules are counted from the request on, and from zero after another request; steps are counted
+/// from the start.
 const RULES: [Step; 13] = [
     Step::Rows(&SECOND),
     Step::Counts(&[]),
@@ -274,7 +263,7 @@ const RULES: [Step; 13] = [
     Step::Counts(&OF_NONE),
 ];
 
-/// Each call that comes again is counted anew where nothing is remembered.
+/// Each repeated call is counted again without a memo table.
 const CALLS: [Step; 4] = [
     Step::Count,
     Step::Rows(&REPEATED),
@@ -296,7 +285,7 @@ const CELLS: [Step; 3] = [
     Step::Done("behind twenty terms", Done::Cells(61)),
 ];
 
-/// The cells are made, too, where they are given back, and fewer are held then.
+/// With collections, the same cells are made, and fewer are in use.
 const RECLAIMS: [Step; 2] = [
     Step::Values(20),
     Step::Done("behind reclaims", Done::Reclaims(61, 30)),
@@ -309,7 +298,7 @@ const ENDS_TOLD: Case = Case {
     question: Question::Observed(&[Step::Ends(&ENDS)]),
 };
 
-/// In a bank that is full of the term.
+/// In a store that is full of the term.
 const ENDS_TOLD_WITHOUT_ROOM: Case = Case {
     spec: ADD,
     options: OPTIONS,
@@ -359,7 +348,7 @@ const RECLAIMS_COUNTED: Case = Case {
     question: Question::Observed(&RECLAIMS),
 };
 
-/// What is told, and what is counted.
+/// Reports and counters.
 const CASES: [&Case; 8] = [
     &ENDS_TOLD,
     &ENDS_TOLD_WITHOUT_ROOM,

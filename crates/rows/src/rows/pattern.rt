@@ -1,4 +1,4 @@
-//! Patterns of terms: what they match, and what they make.
+//! Tests of patterns: matching and construction.
 
 use crate::rows::banks::{plain_bank, term_of};
 use crate::rows::texts::expect;
@@ -8,7 +8,7 @@ use rx_term::{Term, TermBank};
 use std::alloc::Global;
 use std::process::Abort;
 
-/// A pattern, a subject, and the terms that are bound in it, if it is matched.
+/// A pattern, a subject, and the terms that are bound if it matches.
 type Bound = (&'static str, &'static str, Option<&'static [&'static str]>);
 
 const IN_ORDER: [Bound; 7] = [
@@ -50,7 +50,7 @@ const UNMATCHED: [Bound; 8] = [
     ("[<term>]", "[1,2]", None),
 ];
 
-/// Terms, and why they are no patterns.
+/// Terms, and the reason if they are not patterns.
 const REFUSED: [(&str, Option<PatternFault>); 8] = [
     ("<foo>", Some(PatternFault::Unknown)),
     ("<int>{a}", Some(PatternFault::Annotated)),
@@ -62,7 +62,7 @@ const REFUSED: [(&str, Option<PatternFault>); 8] = [
     ("<int()>", None),
 ];
 
-/// A pattern, at most two terms, and the whole that they make.
+/// A pattern, at most two arguments, and the term that is made.
 type Made = (
     &'static str,
     &'static [&'static str],
@@ -92,14 +92,14 @@ const UNMADE: [Made; 5] = [
     ("f(<list>)", &["[a]{b}"], Err(MakeFault::Kind { at: 0 })),
 ];
 
-/// Terms, and how many placeholders they have as patterns.
+/// Terms, and their numbers of placeholders.
 const PLACEHOLDERS: [(&str, usize); 3] = [
     ("f(a,[1])", 0),
     ("<term>", 1),
     ("f(g(<int>){<int>},<list>)", 3),
 ];
 
-/// A term of the bank as a pattern.
+/// Makes a pattern of a term in the store.
 fn pattern_of<B: TermBank>(
     rt: &impl Abort,
     alloc: Global,
@@ -111,19 +111,19 @@ fn pattern_of<B: TermBank>(
     Pattern::of(alloc, bank, t)
 }
 
-/// The pattern that a text spells.
+/// Reads the pattern of a text.
 pub fn pattern<B: TermBank>(rt: &impl Abort, alloc: Global, bank: &mut B, text: &[u8]) -> Pattern {
     pattern_of(rt, alloc, bank, text).expect(rt, "a pattern")
 }
 
-/// A list of one reference.
+/// Returns a list of one reference.
 pub fn only(rt: &impl Abort, alloc: Global, t: Term) -> Vec<Term> {
     let mut out = Vec::new(alloc);
     assert!(rt; out.push(t).is_ok());
     out
 }
 
-/// What the pattern answers for a term of the bank.
+/// Matches a pattern against a term, and returns the bindings.
 pub fn answer<B: TermBank>(
     rt: &impl Abort,
     bank: &mut B,
@@ -135,7 +135,7 @@ pub fn answer<B: TermBank>(
     p.matches(bank, t, out)
 }
 
-/// Whether these are the references of the terms that the texts spell.
+/// Returns whether these are the references of the terms of the texts.
 pub fn are_spelt(
     rt: &impl Abort,
     alloc: Global,
@@ -154,7 +154,7 @@ pub fn are_spelt(
     true
 }
 
-/// What the pattern answers for a subject, where `out` has that already.
+/// Matches the pattern of a text against a subject. `out` is not empty before.
 fn answer_of(
     rt: &impl Abort,
     alloc: Global,
@@ -168,8 +168,7 @@ fn answer_of(
     answer(rt, bank, &p, t, out)
 }
 
-/// Whether the pattern of a row binds just its terms in the subject, and none where it does not
-/// match that.
+/// Returns whether the pattern of a test case binds exactly its terms, or does not match.
 fn holds(rt: &impl Abort, alloc: Global, bank: &mut PlainBank, row: &Bound) -> bool {
     let mut out = Vec::new(alloc);
     let found = answer_of(rt, alloc, bank, (row.0, row.1), &mut out);
@@ -179,7 +178,7 @@ fn holds(rt: &impl Abort, alloc: Global, bank: &mut PlainBank, row: &Bound) -> b
     }
 }
 
-/// Stops where the patterns of rows bind something else.
+/// Aborts the test unless the patterns of test cases bind the expected terms.
 fn expect_bound(rt: &impl Abort, alloc: Global, bank: &mut PlainBank, rows: &[Bound]) {
     for row in rows {
         let is_bound = holds(rt, alloc, bank, row);
@@ -187,7 +186,7 @@ fn expect_bound(rt: &impl Abort, alloc: Global, bank: &mut PlainBank, rows: &[Bo
     }
 }
 
-/// Why a term is no pattern.
+/// Returns the reason why a term is not a pattern.
 fn refusal(
     rt: &impl Abort,
     alloc: Global,
@@ -197,7 +196,7 @@ fn refusal(
     pattern_of(rt, alloc, bank, text).err()
 }
 
-/// Stops where terms are patterns, or are none for another reason.
+/// Aborts the test unless terms are rejected as patterns for the expected reason.
 fn expect_refused(rt: &impl Abort, alloc: Global, bank: &mut PlainBank) {
     for (text, wanted) in &REFUSED {
         let found = refusal(rt, alloc, bank, text.as_bytes());
@@ -205,12 +204,12 @@ fn expect_refused(rt: &impl Abort, alloc: Global, bank: &mut PlainBank) {
     }
 }
 
-/// How many placeholders a pattern has.
+/// Returns the number of placeholders of a pattern.
 fn placeholders(rt: &impl Abort, alloc: Global, bank: &mut PlainBank, text: &[u8]) -> usize {
     pattern(rt, alloc, bank, text).placeholders()
 }
 
-/// Stops where patterns have more placeholders, or fewer.
+/// Aborts the test unless patterns have the expected numbers of placeholders.
 fn expect_placeholders(rt: &impl Abort, alloc: Global, bank: &mut PlainBank) {
     for (text, count) in &PLACEHOLDERS {
         let found = placeholders(rt, alloc, bank, text.as_bytes());
@@ -218,7 +217,7 @@ fn expect_placeholders(rt: &impl Abort, alloc: Global, bank: &mut PlainBank) {
     }
 }
 
-/// What the pattern makes of a term of the bank.
+/// Makes a term from a pattern and one argument.
 pub fn of_one<B: TermBank>(
     rt: &impl Abort,
     bank: &mut B,
@@ -229,7 +228,7 @@ pub fn of_one<B: TermBank>(
     p.make(bank, &[a])
 }
 
-/// What the pattern makes of two terms of the bank.
+/// Makes a term from a pattern and two arguments.
 fn of_two<B: TermBank>(
     rt: &impl Abort,
     bank: &mut B,
@@ -242,7 +241,7 @@ fn of_two<B: TermBank>(
     p.make(bank, &[a, b])
 }
 
-/// What the pattern makes of the terms of some texts.
+/// Makes a term from a pattern and the terms of these texts.
 fn make_of(
     rt: &impl Abort,
     alloc: Global,
@@ -261,7 +260,7 @@ fn make_of(
     of_two(rt, bank, p, a, b)
 }
 
-/// Whether the terms of a row make its whole, or nothing for its reason.
+/// Returns whether the arguments of a test case make its term, or fail for its reason.
 fn makes(rt: &impl Abort, alloc: Global, bank: &mut PlainBank, row: &Made) -> bool {
     let p = pattern(rt, alloc, bank, row.0.as_bytes());
     let found = make_of(rt, alloc, bank, &p, row.1);
@@ -271,7 +270,7 @@ fn makes(rt: &impl Abort, alloc: Global, bank: &mut PlainBank, row: &Made) -> bo
     }
 }
 
-/// Stops where the patterns of rows make something else.
+/// Aborts the test unless the patterns of test cases make the expected terms.
 fn expect_made(rt: &impl Abort, alloc: Global, bank: &mut PlainBank, rows: &[Made]) {
     for row in rows {
         let is_made = makes(rt, alloc, bank, row);
@@ -279,7 +278,7 @@ fn expect_made(rt: &impl Abort, alloc: Global, bank: &mut PlainBank, rows: &[Mad
     }
 }
 
-/// What is asked of patterns in a bank.
+/// The subject of a test of patterns.
 #[derive(Drop)]
 enum Question {
     Bound(&'static [Bound]),
@@ -288,7 +287,7 @@ enum Question {
     Made(&'static [Made]),
 }
 
-/// Stops where the patterns of a bank answer otherwise.
+/// Aborts the test unless patterns in this store behave as expected.
 fn ask_bank(rt: &impl Abort, alloc: Global, bank: &mut PlainBank, question: &Question) {
     match question {
         Question::Bound(rows) => expect_bound(rt, alloc, bank, rows),
@@ -298,12 +297,12 @@ fn ask_bank(rt: &impl Abort, alloc: Global, bank: &mut PlainBank, question: &Que
     }
 }
 
-/// The same of a bank of no terms.
+/// Tests patterns in a new store.
 fn ask(rt: &impl Abort, alloc: Global, question: &Question) {
     ask_bank(rt, alloc, &mut plain_bank(rt, alloc, 1000), question);
 }
 
-/// What is asked, each in a bank of its own.
+/// The subjects, each for a store of its own.
 const ASKED: [Question; 7] = [
     Question::Bound(&IN_ORDER),
     Question::Bound(&OF_KINDS),

@@ -1,4 +1,4 @@
-//! Patterns in a full bank, and deep ones.
+//! Tests of patterns in a full store, and of deep ones.
 
 use crate::rows::banks::{plain_box, shared_box, term_of};
 use crate::rows::pattern::{answer, are_spelt, of_one, only, pattern};
@@ -10,14 +10,14 @@ use rx_term::{Term, TermBank};
 use std::alloc::Global;
 use std::process::Abort;
 
-/// The pattern that a text spells, in a bank that then keeps nothing.
+/// Reads the pattern of a text, and frees all cells.
 fn lone_pattern(rt: &impl Abort, alloc: Global, bank: &mut PlainBank, text: &[u8]) -> Pattern {
     let p = pattern(rt, alloc, bank, text);
     bank.reclaim(&[]);
     p
 }
 
-/// Leaves the bank the term alone.
+/// Frees everything except a term.
 fn keep(rt: &impl Abort, bank: &mut PlainBank, t: Term) {
     assert!(rt; bank.holds(t));
     bank.reclaim(&[t]);
@@ -28,7 +28,7 @@ fn a_full_bank(rt: HostRuntime) {
     fill(&rt, rt.alloc(), &mut *plain_box(&rt, rt.alloc(), 8));
 }
 
-/// Calls in a bank whose cells a term takes but for one.
+/// Tests calls in a store in which a term leaves one cell free.
 fn fill(rt: &impl Abort, alloc: Global, bank: &mut PlainBank) {
     let open = lone_pattern(rt, alloc, bank, b"[<list>]{x}");
     let single = lone_pattern(rt, alloc, bank, b"[<int>]");
@@ -38,7 +38,7 @@ fn fill(rt: &impl Abort, alloc: Global, bank: &mut PlainBank) {
     find_no_room(rt, alloc, bank, (&open, &single), t);
 }
 
-/// Calls that fail for want of cells.
+/// Tests calls that fail with a full store.
 fn find_no_room(
     rt: &impl Abort,
     alloc: Global,
@@ -54,7 +54,7 @@ fn find_no_room(
     find_room(rt, bank, open, t, &mut out);
 }
 
-/// Stops unless the pattern finds no room for the term.
+/// Aborts the test unless the store is full when the pattern is used with the term.
 fn expect_full(
     rt: &impl Abort,
     bank: &mut PlainBank,
@@ -66,14 +66,14 @@ fn expect_full(
     assert!(rt; matches!(found, Err(PatternFault::Full)) && out.is_empty());
 }
 
-/// What goes on after a reclaim.
+/// Tests the same calls after a collection.
 fn find_room(rt: &impl Abort, bank: &mut PlainBank, open: &Pattern, t: Term, out: &mut Vec<Term>) {
     keep(rt, bank, t);
     assert!(rt; matches!(answer(rt, bank, open, t, out), Ok(true)));
     assert!(rt; are_spelt(rt, *out.allocator(), bank, out, &["[1,2]"]));
 }
 
-/// A list within a list, 200,000 times, around a placeholder.
+/// A placeholder inside 200,000 nested lists.
 const DEEP: Nest = Nest {
     before: b"",
     open: b"[",
@@ -83,7 +83,7 @@ const DEEP: Nest = Nest {
     depth: 200_000,
 };
 
-/// The same around what it matches.
+/// A term that it matches, inside 200,000 nested lists.
 const DEEP_SUBJECT: Nest = Nest {
     before: b"",
     open: b"[",
@@ -93,20 +93,20 @@ const DEEP_SUBJECT: Nest = Nest {
     depth: 200_000,
 };
 
-/// A bank that searches from the front would take minutes.
+/// A store with linear searches would take minutes.
 #[test]
 fn deep_terms(rt: HostRuntime) {
     match_deep(&rt, rt.alloc(), &mut *shared_box(&rt, rt.alloc(), 500_000));
 }
 
-/// The pattern that the text spells matches the subject, and not its own text.
+/// Checks that the pattern of the text matches the subject, and not its own text.
 fn match_deep(rt: &impl Abort, alloc: Global, bank: &mut SharedBank) {
     let text = DEEP.text(rt, alloc);
     let p = pattern(rt, alloc, bank, &text);
     match_both(rt, alloc, bank, &p, &text);
 }
 
-/// The pattern matches the subject, and not this text.
+/// Checks that the pattern matches the subject, and not this text.
 fn match_both(rt: &impl Abort, alloc: Global, bank: &mut SharedBank, p: &Pattern, text: &[u8]) {
     let mut out = Vec::new(alloc);
     match_subject(rt, alloc, bank, p, &mut out);
@@ -114,12 +114,12 @@ fn match_both(rt: &impl Abort, alloc: Global, bank: &mut SharedBank, p: &Pattern
     assert!(rt; matches!(answer(rt, bank, p, other, &mut out), Ok(false)) && out.is_empty());
 }
 
-/// The subject in this bank.
+/// Reads the subject.
 fn subject(rt: &impl Abort, alloc: Global, bank: &mut SharedBank) -> Term {
     term_of(rt, alloc, bank, &DEEP_SUBJECT.text(rt, alloc))
 }
 
-/// The pattern matches the subject, and makes it of the 1 that it finds there.
+/// Checks that the pattern matches the subject, and makes it from the 1 that it binds.
 fn match_subject(
     rt: &impl Abort,
     alloc: Global,
@@ -134,7 +134,7 @@ fn match_subject(
     expect_made(rt, bank, p, one, t);
 }
 
-/// The pattern makes the subject of the 1.
+/// Checks that the pattern makes the subject from the 1.
 fn expect_made(rt: &impl Abort, bank: &mut SharedBank, p: &Pattern, one: Term, t: Term) {
     let made = of_one(rt, bank, p, one).expect(rt, "a term");
     assert!(rt; made == t);

@@ -1,4 +1,4 @@
-//! Values that come to stand where they are wanted.
+//! Tests of parallel moves.
 
 ghost use Rattle.std.specs.Prelude.{◌≡◌, ◌-◌, nat_lt, length};
 ghost use Rattle.std.specs.List.{list_all};
@@ -8,8 +8,8 @@ use rx_term::Term;
 use std::alloc::Global;
 use std::process::Abort;
 
-/// Registers, which are counted from a place of ten references on, where their values come to
-/// stand, and what is there then.
+/// Registers, the index of ten references from which they are counted, the index to which their
+/// values are moved, and the expected references.
 type Row = (&'static [u32], usize, usize, &'static [u32]);
 
 const SETTLED: [Row; 9] = [
@@ -24,14 +24,14 @@ const SETTLED: [Row; 9] = [
     (&[3, 3, 3], 6, 8, &[0, 1, 2, 3, 4, 5, 6, 7, 9, 9, 9]),
 ];
 
-/// Where references stand, where they go, and what is there then.
+/// The index of references, the index to which they are moved, and the expected references.
 const MOVED: [(usize, usize, &[u32]); 3] = [
     (8, 1, &[0, 8, 9]),
     (10, 2, &[0, 1]),
     (0, 0, &[0, 1, 2, 3, 4, 5, 6, 7, 8, 9]),
 ];
 
-/// Ten references, each of the number of its place.
+/// Ten references with the numbers of their indices.
 const TEN: [Term; 10] = [
     Term(0),
     Term(1),
@@ -45,14 +45,14 @@ const TEN: [Term; 10] = [
     Term(9),
 ];
 
-/// The same in a vector.
+/// Returns the ten references as a vector.
 fn ten(rt: &impl Abort, alloc: Global) -> Vec<Term>
     ensures { length result.items ≡ 10 }
 {
     Vec::from_slice(alloc, &TEN).expect(rt, "memory")
 }
 
-/// Stops where the references are others.
+/// Aborts the test unless these are the references.
 fn expect_numbers(rt: &impl Abort, work: &[Term], wanted: &[u32]) {
     assert!(rt; work.len() == wanted.len());
     for (term, number) in work.iter().zip(wanted) {
@@ -60,7 +60,7 @@ fn expect_numbers(rt: &impl Abort, work: &[Term], wanted: &[u32]) {
     }
 }
 
-/// Whether all registers are among so many.
+/// Returns whether all registers are below `count`.
 fn are_there(registers: &[u32], count: usize) -> bool
     ensures { result ≡ list_all (λ r. nat_lt r count) registers.now }
 {
@@ -69,7 +69,7 @@ fn are_there(registers: &[u32], count: usize) -> bool
         .all(|register| (*register as usize) < count)
 }
 
-/// Brings the values of registers, among ten references, where they are wanted, by either function.
+/// Moves the values of registers among ten references, with one of the two functions.
 fn settle_ten(rt: &impl Abort, work: &mut Vec<Term>, row: &Row, is_over: bool)
     requires { length work.old.items ≡ 10 }
 {
@@ -84,7 +84,7 @@ fn settle_ten(rt: &impl Abort, work: &mut Vec<Term>, row: &Row, is_over: bool)
     assert!(rt; done.is_ok());
 }
 
-/// Stops where the values of registers come to stand otherwise, by either function.
+/// Aborts the test unless the values of registers are moved as expected.
 fn expect_settled(rt: &impl Abort, alloc: Global, row: &Row, is_over: bool) {
     let mut work = ten(rt, alloc);
     settle_ten(rt, &mut work, row, is_over);
@@ -99,7 +99,7 @@ fn values_settle(rt: HostRuntime) {
     }
 }
 
-/// Stops where references that move down leave others.
+/// Aborts the test unless references are moved down as expected.
 fn expect_moved(rt: &impl Abort, alloc: Global, from: usize, to: usize, wanted: &[u32]) {
     let mut work = ten(rt, alloc);
     assert!(rt; to <= from && from <= 10);

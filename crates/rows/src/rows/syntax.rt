@@ -1,3 +1,5 @@
+//! Tests of the parser of specifications.
+
 use crate::rows::texts::{Nest, blanks, expect, spec_of};
 use rec_syntax::TokenKind::*;
 use rec_syntax::*;
@@ -32,7 +34,7 @@ const RULES: TokenKind = Section(Part::Rules);
 
 const EVAL: TokenKind = Section(Part::Eval);
 
-/// What may stand behind the beginning of a text, in the sections before the rules.
+/// Prefixes of texts, and the expected tokens after them, in the sections before the rules.
 const DECLARED: [(&str, &[TokenKind]); 17] = [
     ("", &[RecSpec]),
     ("REC-SPEC", &[PlainWord]),
@@ -68,7 +70,7 @@ const DECLARED: [(&str, &[TokenKind]); 17] = [
     ("REC-SPEC E END-SPEC a", &[End]),
 ];
 
-/// What may stand behind the beginning of a text, in the rules and the terms to evaluate.
+/// Prefixes of texts, and the expected tokens after them, in the rules and EVAL terms.
 const TERMS: [(&str, &[TokenKind]); 18] = [
     ("REC-SPEC E RULES f ->", &[PlainWord]),
     ("REC-SPEC E RULES f -> X if", &[PlainWord]),
@@ -99,7 +101,7 @@ const TERMS: [(&str, &[TokenKind]); 18] = [
     ),
 ];
 
-/// Texts outside the grammar, with their places.
+/// Texts with a syntax error, and its offset.
 const PLACES: [(&str, u32); 6] = [
     ("REC-SPEC E SORTS : END-SPEC", 17),
     ("REC-SPEC E", 10),
@@ -109,10 +111,10 @@ const PLACES: [(&str, u32); 6] = [
     ("REC-SPEC E EVAL f(a,) END-SPEC", 20),
 ];
 
-/// The letters of the sum, from its end on: where each word begins, and how many arguments it has.
+/// The nodes of the sum in postfix form: the offset of each word, and its number of arguments.
 const NODES: [(usize, usize); 6] = [(174, 0), (172, 1), (170, 1), (180, 0), (178, 1), (165, 2)];
 
-/// The place of a text that is outside the grammar.
+/// Returns the offset of a syntax error.
 fn place(answer: Result<Syntax, SyntaxFault>) -> Option<u32> {
     match answer {
         Err(SyntaxFault::Grammar { at }) => Some(at),
@@ -120,7 +122,7 @@ fn place(answer: Result<Syntax, SyntaxFault>) -> Option<u32> {
     }
 }
 
-/// Whether a term has these nodes.
+/// Returns whether a term has these nodes.
 fn has_nodes(term: &Term, wanted: &[(usize, usize)]) -> bool {
     let nodes = term.nodes();
     if nodes.len() != wanted.len() {
@@ -134,7 +136,8 @@ fn has_nodes(term: &Term, wanted: &[(usize, usize)]) -> bool {
     true
 }
 
-/// How many sorts, constructors, operators, groups of variables, rules and terms there are.
+/// Returns the numbers of sorts, constructors, operators, groups of variables, rules and EVAL
+/// terms.
 fn lengths(spec: &Syntax) -> [usize; 6] {
     [
         spec.sorts().len(),
@@ -146,7 +149,7 @@ fn lengths(spec: &Syntax) -> [usize; 6] {
     ]
 }
 
-/// The specification of a text, in a box, which is less to carry.
+/// Returns the specification of a text on the heap, so that less is copied.
 fn spec_box(rt: &impl Abort, alloc: Global, spec: &[u8]) -> Box<Syntax> {
     Box::new(alloc, spec_of(rt, alloc, spec)).expect(rt, "memory")
 }
@@ -174,12 +177,12 @@ fn places(rt: HostRuntime) {
     assert!(rt; place(read_spec(rt.alloc(), &ADDITION[..184])) == Some(184));
 }
 
-/// What may stand where a text leaves the grammar.
+/// Returns the expected tokens at the syntax error of a text.
 fn expected_kinds(rt: &impl Abort, alloc: Global, text: &[u8]) -> Vec<TokenKind> {
     expected_at_fault(alloc, text).expect(rt, "kinds of tokens")
 }
 
-/// Stops where something else may stand behind the beginnings of texts.
+/// Aborts the test unless the prefixes have these expected tokens.
 fn expect_kinds(rt: &impl Abort, alloc: Global, rows: &[(&str, &[TokenKind])]) {
     for (text, wanted) in rows {
         let kinds = expected_kinds(rt, alloc, text.as_bytes());
@@ -194,7 +197,7 @@ fn expected_tokens(rt: HostRuntime) {
     assert!(rt; expected_kinds(&rt, rt.alloc(), ADDITION).is_empty());
 }
 
-/// The specification of a text that it keeps.
+/// Reads the specification of a text. It owns the text.
 fn read_text_owned(rt: &impl Abort, alloc: Global, text: &[u8]) -> Result<Syntax, SyntaxFault> {
     read_owned(alloc, Vec::from_slice(alloc, text).expect(rt, "memory"))
 }
@@ -222,7 +225,7 @@ fn the_least_one(rt: HostRuntime) {
     assert!(rt; spec.sorts().is_empty() && spec.terms().is_empty());
 }
 
-/// Whether the conditions of a rule have these marks: whether each wants equal terms.
+/// Returns whether the conditions of a rule have these marks. True stands for equality.
 fn has_marks(rule: &Rule, marks: &[bool]) -> bool {
     if rule.conditions.len() != marks.len() {
         return false;
@@ -249,7 +252,7 @@ fn a_condition(rt: HostRuntime) {
     expect_marks(&rt, &spec);
 }
 
-/// A word inside a million others, as a term to evaluate.
+/// An EVAL term with a word inside a million others.
 const DEEP: Nest = Nest {
     before: b"REC-SPEC E EVAL ",
     open: b"s(",
@@ -273,7 +276,7 @@ fn a_million_deep(rt: HostRuntime) {
     expect_deep(&rt, &spec);
 }
 
-/// A specification of this many bytes, most of them blanks.
+/// Returns a specification of this length, most of which is spaces.
 fn blank(rt: &impl Abort, alloc: Global, length: usize) -> Vec<u8> {
     let mut text = blanks(rt, alloc, length);
     assert!(rt; text.len() > 19);
@@ -281,7 +284,7 @@ fn blank(rt: &impl Abort, alloc: Global, length: usize) -> Vec<u8> {
     text
 }
 
-/// Why a specification of so many bytes isn't read.
+/// Returns the error of a specification of this length.
 fn blank_fault(rt: &impl Abort, alloc: Global, length: usize) -> Option<SyntaxFault> {
     read_spec(alloc, &blank(rt, alloc, length)).err()
 }

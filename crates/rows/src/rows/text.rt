@@ -1,17 +1,20 @@
+//! Tests of reading and writing texts of terms.
+
 use crate::rows::banks::{expect_text, plain_bank, shared_bank, term_of, text_of};
 use crate::rows::texts::{Nest, blanks, expect, push};
 use rx_plain::PlainBank;
 use rx_term::{Term, TermBank};
 use rx_text::TokenKind::*;
 use rx_text::{
-    RefusedWrite, TextFault, TokenKind, WriteFault, expected_at_fault, put, read, write,
+    RefusedWrite, TextFault, TokenKind, WriteFault, expected_at_fault, put, read, text_front,
+    write, write_within,
 };
 use std::alloc::Global;
 use std::io;
 use std::io::Write;
 use std::process::Abort;
 
-/// What may stand where a term is due.
+/// Texts, and the expected tokens, which begin a term.
 const BEGINS: [(&str, &[TokenKind]); 8] = [
     ("", &[Integer, Name, Open, OpenBracket, Less]),
     ("<", &[Integer, Name, Open, OpenBracket, Less]),
@@ -23,7 +26,7 @@ const BEGINS: [(&str, &[TokenKind]); 8] = [
     ("a{", &[Integer, Name, Open, OpenBracket, CloseBrace, Less]),
 ];
 
-/// What may stand behind a term.
+/// Texts, and the expected tokens after a term.
 const BEHIND: [(&str, &[TokenKind]); 11] = [
     ("a b", &[Open, OpenBrace, End]),
     ("f(a", &[Open, Close, OpenBrace, Comma]),
@@ -38,7 +41,7 @@ const BEHIND: [(&str, &[TokenKind]); 11] = [
     ("<a{}", &[Greater]),
 ];
 
-/// Texts outside the grammar, with their places.
+/// Texts with a syntax error, and its offset.
 const PLACES: [(&str, u32); 14] = [
     ("", 0),
     ("2147483648", 0),
@@ -56,7 +59,7 @@ const PLACES: [(&str, u32); 14] = [
     ("<a,b>", 2),
 ];
 
-/// A text of a term, and what the term is printed as.
+/// A text of a term, and its printed form.
 const PRINTED: [(&str, &str); 10] = [
     ("f ( a , [ 1 , -007 ] ) { b }", "f(a,[1,-7]){b}"),
     ("f()", "f"),
@@ -70,7 +73,7 @@ const PRINTED: [(&str, &str); 10] = [
     ("<7>{7}", "<7>{7}"),
 ];
 
-/// The offset of the token at which the text leaves the grammar.
+/// Returns the offset of the syntax error of a text.
 fn place(alloc: Global, bank: &mut PlainBank, text: &[u8]) -> Option<u32> {
     match read(alloc, text, bank) {
         Err(TextFault::Grammar { at }) => Some(at),
@@ -85,7 +88,7 @@ fn expect_places(rt: &impl Abort, alloc: Global, bank: &mut PlainBank) {
     }
 }
 
-/// What the tree that a text spells is printed as; nothing where it spells none.
+/// Returns the printed form of the term of a text; an empty text if it is not a term.
 fn printed_text(rt: &impl Abort, alloc: Global, bank: &mut PlainBank, text: &[u8]) -> Vec<u8> {
     match read(alloc, text, bank) {
         Ok(t) => text_of(rt, alloc, bank, t),
@@ -100,13 +103,13 @@ fn expect_printed(rt: &impl Abort, alloc: Global, bank: &mut PlainBank) {
     }
 }
 
-/// The brackets are read before a bank without room for their lists is asked.
+/// The brackets are read before a store without room for their lists is used.
 fn expect_no_room(rt: &impl Abort, alloc: Global, bank: &mut PlainBank) {
     let bytes = BRACKETS.text(rt, alloc);
     assert!(rt; read(alloc, &bytes, bank) == Err(TextFault::Full));
 }
 
-/// A full bank answers that; a text with a fault is answered first.
+/// A full store is reported as full; a text with a syntax error is reported as such.
 fn fill(rt: &impl Abort, alloc: Global, bank: &mut PlainBank) {
     assert!(rt;
         read(alloc, b"[1,2,3]", bank) == Err(TextFault::Full)
@@ -115,7 +118,7 @@ fn fill(rt: &impl Abort, alloc: Global, bank: &mut PlainBank) {
     );
 }
 
-/// What comes of writing a term where so many bytes have room; all of the room is taken.
+/// Writes a term to a writer with room for this number of bytes. All of the room is used.
 fn fill_with(
     rt: &impl Abort,
     alloc: Global,
@@ -130,16 +133,30 @@ fn fill_with(
     answer
 }
 
-/// Stops unless a term of eight bytes has room in so many, and no fewer.
+/// Aborts the test unless the front of a text has `most` bytes, and the text is returned if it fits.
+fn expect_within(rt: &impl Abort, alloc: Global, bank: &PlainBank, t: Term, most: usize) {
+    assert!(rt; bank.holds(t));
+    let front = text_front(alloc, bank, t, most).expect(rt, "memory");
+    assert!(rt; front.as_slice() == &b"f(a,[1])"[..most.min(8)]);
+    match write_within(alloc, bank, t, most).expect(rt, "memory") {
+        Some(whole) => assert!(rt; most >= 8 && whole.as_slice() == b"f(a,[1])".as_slice()),
+        None => assert!(rt; most < 8),
+    }
+}
+
+/// Aborts the test unless a term of eight bytes fits into eight bytes and no fewer.
 fn expect_room(rt: &impl Abort, alloc: Global, bank: &mut PlainBank) {
     let t = term_of(rt, alloc, bank, b"f(a,[1])");
     for left in 0..8 {
         assert!(rt; fill_with(rt, alloc, bank, t, left) == Err(WriteFault::Write));
     }
     assert!(rt; fill_with(rt, alloc, bank, t, 8).is_ok());
+    for most in 0..10 {
+        expect_within(rt, alloc, bank, t, most);
+    }
 }
 
-/// As many blanks as a text may have bytes, and one byte more.
+/// Tests the longest text of spaces, and one with one byte more.
 fn expect_long(rt: &impl Abort, alloc: Global, bank: &mut PlainBank) {
     let mut bytes = blanks(rt, alloc, 16_777_216);
     assert!(rt; read(alloc, &bytes, bank) == Err(TextFault::Grammar { at: 16_777_216 }));
@@ -147,7 +164,7 @@ fn expect_long(rt: &impl Abort, alloc: Global, bank: &mut PlainBank) {
     assert!(rt; read(alloc, &bytes, bank) == Err(TextFault::Long));
 }
 
-/// What a bank of so many cells is asked.
+/// The subject of a test of a store.
 #[derive(Drop)]
 enum Question {
     Places,
@@ -158,7 +175,7 @@ enum Question {
     Long,
 }
 
-/// Stops where a bank answers otherwise.
+/// Aborts the test unless a store behaves as expected.
 fn ask_bank(rt: &impl Abort, alloc: Global, bank: &mut PlainBank, question: &Question) {
     match question {
         Question::Places => expect_places(rt, alloc, bank),
@@ -170,12 +187,12 @@ fn ask_bank(rt: &impl Abort, alloc: Global, bank: &mut PlainBank, question: &Que
     }
 }
 
-/// The same of a bank of no terms.
+/// Tests an empty store of this capacity.
 fn ask(rt: &impl Abort, alloc: Global, cells: u32, question: &Question) {
     ask_bank(rt, alloc, &mut plain_bank(rt, alloc, cells), question);
 }
 
-/// How many cells a bank has, and what it is asked.
+/// The capacities of stores, and the subjects of their tests.
 const ASKED: [(u32, Question); 6] = [
     (10, Question::Places),
     (1000, Question::Printed),
@@ -192,12 +209,12 @@ fn texts_of_terms(rt: HostRuntime) {
     }
 }
 
-/// What may stand where a text leaves the grammar.
+/// Returns the expected tokens at the syntax error of a text.
 fn expected_kinds(rt: &impl Abort, alloc: Global, text: &[u8]) -> Vec<TokenKind> {
     expected_at_fault(alloc, text).expect(rt, "kinds of tokens")
 }
 
-/// Stops where something else may stand where the texts leave the grammar.
+/// Aborts the test unless the texts have these expected tokens.
 fn expect_kinds(rt: &impl Abort, alloc: Global, rows: &[(&str, &[TokenKind])]) {
     for (text, wanted) in rows {
         let kinds = expected_kinds(rt, alloc, text.as_bytes());
@@ -222,13 +239,13 @@ const BRACKETS: Nest = Nest {
     depth: 2_000_000,
 };
 
-/// Stops where a text spells no term, or one with another text.
+/// Aborts the test unless a text is the printed form of its term.
 fn expect_same<B: TermBank + Drop>(rt: &impl Abort, alloc: Global, mut bank: B, text: &[u8]) {
     let t = term_of(rt, alloc, &mut bank, text);
     expect_text(rt, alloc, &bank, t, text);
 }
 
-/// The same in a bank of two million cells.
+/// Tests the same in a store of two million cells.
 fn expect_in_cells(rt: &impl Abort, alloc: Global, text: &[u8]) {
     expect_same(rt, alloc, shared_bank(rt, alloc, 2_000_000), text);
 }
@@ -238,7 +255,7 @@ fn two_million_levels(rt: HostRuntime) {
     expect_in_cells(&rt, rt.alloc(), &BRACKETS.text(&rt, rt.alloc()));
 }
 
-/// A writer with room for so many bytes.
+/// A writer with room for a number of bytes.
 #[derive(Drop)]
 struct Small {
     left: usize,
@@ -256,7 +273,7 @@ impl Write for Small {
     }
 }
 
-/// What has no room is refused; the empty text needs none.
+/// A text that does not fit is an error; the empty text needs no room.
 #[test]
 fn a_text_beyond_the_room(rt: HostRuntime) {
     let mut out = Small { left: 3 };

@@ -1,11 +1,11 @@
-//! Texts that several rows take.
+//! Texts for several test cases.
 
 use rec_sorts::{Checked, check};
 use rec_syntax::{Syntax, read_spec};
 use std::alloc::Global;
 use std::process::Abort;
 
-/// A specification of each section, with one rule.
+/// A specification with all sections and one rule.
 pub const Q: &str = "REC-SPEC Q \
     SORTS A B \
     CONS a : -> A b : -> B \
@@ -23,7 +23,7 @@ pub const ADD: &str = "REC-SPEC Add \
     RULES plus(z,Y) -> Y plus(s(X),Y) -> s(plus(X,Y)) \
     EVAL plus(s(s(z)),s(z)) END-SPEC";
 
-/// A text between others, so many times.
+/// A text inside other texts, which are repeated.
 #[derive(Drop)]
 pub struct Nest<'a> {
     pub before: &'a [u8],
@@ -35,7 +35,7 @@ pub struct Nest<'a> {
 }
 
 impl Nest<'_> {
-    /// The whole text.
+    /// Returns the whole text.
     pub fn text(&self, rt: &impl Abort, alloc: Global) -> Vec<u8> {
         let mut text = Vec::from_slice(alloc, self.before).expect(rt, "memory");
         repeat(rt, &mut text, self.open, self.depth);
@@ -46,39 +46,39 @@ impl Nest<'_> {
     }
 }
 
-/// Adds a part so many times.
+/// Appends a part `count` times.
 fn repeat(rt: &impl Abort, text: &mut Vec<u8>, part: &[u8], count: u32) {
     for _ in 0..count {
         assert!(rt; text.extend_from_slice(part).is_ok());
     }
 }
 
-/// So many blanks.
+/// Returns `count` spaces.
 pub fn blanks(rt: &impl Abort, alloc: Global, count: usize) -> Vec<u8> {
     vec![in alloc; b' '; count].expect(rt, "memory")
 }
 
-/// Adds a text's end.
+/// Appends a text.
 pub fn push(rt: &impl Abort, text: &mut Vec<u8>, end: &[u8]) {
     assert!(rt; text.extend_from_slice(end).is_ok());
 }
 
-/// Stops where a row does not hold.
+/// Aborts the test unless a test case holds.
 pub fn expect(rt: &impl Abort, holds: bool, row: &str) {
     assert!(rt; holds, "{row}");
 }
 
-/// The specification of a text.
+/// Reads the specification of a text.
 pub fn spec_of(rt: &impl Abort, alloc: Global, spec: &[u8]) -> Syntax {
     read_spec(alloc, spec).expect(rt, "a specification")
 }
 
-/// The checked specification of a text.
+/// Reads and checks the specification of a text.
 pub fn checked_spec(rt: &impl Abort, alloc: Global, spec: &[u8]) -> Checked {
     check(alloc, spec_of(rt, alloc, spec)).expect(rt, "a checked specification")
 }
 
-/// The same in a box, which is less to carry.
+/// Reads and checks the specification of a text, and moves it to the heap, so that less is copied.
 pub fn checked_box(rt: &impl Abort, alloc: Global, spec: &[u8]) -> Box<Checked> {
     Box::new(alloc, checked_spec(rt, alloc, spec)).expect(rt, "memory")
 }

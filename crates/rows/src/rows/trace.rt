@@ -1,4 +1,4 @@
-//! A trace, one firing after the other.
+//! Tests of traces, rewrite by rewrite.
 
 ghost use Rattle.std.specs.Prelude.{◌≡◌, Some};
 ghost use Rattle.rx_term.specs.Store.{tree_at};
@@ -14,7 +14,7 @@ use rx_term::{Term, TermBank};
 use std::alloc::Global;
 use std::process::Abort;
 
-/// A sum, and a condition that costs a step of its own.
+/// A sum, and a condition that spends a step.
 const SPEC: &[u8] = b"REC-SPEC Add SORTS N \
     CONS z : -> N s : N -> N \
     OPNS add : N N -> N f : N -> N \
@@ -22,7 +22,7 @@ const SPEC: &[u8] = b"REC-SPEC Add SORTS N \
     RULES add(z,Y) -> Y add(s(X),Y) -> s(add(X,Y)) f(X) -> s(X) if add(X,z) -><- X \
     EVAL add(s(z),s(z)) f(z) END-SPEC";
 
-/// A firing: its rule, its redex, what it becomes, and the steps that are left.
+/// A rewrite: its rule, the redex, its replacement, and the steps left.
 pub struct Fired {
     rule: u32,
     redex: &'static [u8],
@@ -30,39 +30,39 @@ pub struct Fired {
     left: u64,
 }
 
-/// What a trace is asked for.
+/// A request to a trace.
 #[derive(Drop)]
 pub enum Asked {
-    /// The whole term, which has this text.
+    /// The whole term, with its text.
     Whole(&'static [u8]),
-    /// The next step, which is this firing.
+    /// The next step, which is this rewrite.
     Step(&'static Fired),
-    /// The next event, which is this firing, and then what its redex becomes.
+    /// The next event, which is this rewrite; then its replacement.
     Event(&'static Fired),
-    /// The next event, which is a firing; it is not written down what its redex becomes.
+    /// The next event, which is a rewrite. The replacement is not made.
     Unwritten,
 }
 
-/// What a trace is asked for at last.
+/// The last request to a trace.
 #[derive(Drop)]
 pub enum Last {
-    /// The next step, which is the value of this text.
+    /// The next step, which is the result with this text.
     Step(&'static [u8]),
-    /// The next event, which is that.
+    /// The next event, which is the result with this text.
     Event(&'static [u8]),
-    /// The next step, which is over the limit.
+    /// The next step, which exceeds the step limit.
     StepOverLimit,
-    /// The next event, which is that.
+    /// The next event, which exceeds the step limit.
     EventOverLimit,
 }
 
-/// The number of a term, the most steps of its trace, and what that is asked for in turn.
+/// The index of a term, the step limit of its trace, and the requests in order.
 pub type Trace = (u32, u64, &'static [Asked], Last);
 
-/// Traces of one engine, one behind the other.
+/// Traces of one engine, one after the other.
 pub type Traced = &'static [Trace];
 
-/// The next step of a trace, which is a firing or the value.
+/// Returns the next step of a trace: a rewrite or the result.
 fn step_of<B: TermBank>(
     rt: &impl Abort,
     alloc: Global,
@@ -78,7 +78,7 @@ fn step_of<B: TermBank>(
     turn
 }
 
-/// Stops where a redex has another text than that of this firing, or what it becomes.
+/// Aborts the test unless a redex and its replacement have the texts of this rewrite.
 fn expect_texts<B: TermBank>(
     rt: &impl Abort,
     alloc: Global,
@@ -90,12 +90,12 @@ fn expect_texts<B: TermBank>(
     expect_text(rt, alloc, bank, contractum, wanted.contractum);
 }
 
-/// Stops where another rule fired than in this firing, or another number of steps is left.
+/// Aborts the test unless this rewrite's rule was applied, and the steps left are as expected.
 fn expect_rule(rt: &impl Abort, tracer: &Tracer, rule: u32, wanted: &Fired) {
     assert!(rt; rule == wanted.rule && tracer.left() == wanted.left);
 }
 
-/// Stops where the next step of a trace is another one than this firing.
+/// Aborts the test unless the next step of a trace is this rewrite.
 fn expect_fired<B: TermBank>(
     rt: &impl Abort,
     alloc: Global,
@@ -119,7 +119,7 @@ fn expect_fired<B: TermBank>(
     expect_texts(rt, alloc, engine.bank(), (redex, contractum), wanted);
 }
 
-/// Stops where the next step of a trace is no value of this text.
+/// Aborts the test unless the next step of a trace is the result with this text.
 fn expect_value<B: TermBank>(
     rt: &impl Abort,
     alloc: Global,
@@ -135,7 +135,7 @@ fn expect_value<B: TermBank>(
     expect_text(rt, alloc, engine.bank(), term, wanted);
 }
 
-/// The next event of a trace, which is a firing or the value.
+/// Returns the next event of a trace: a rewrite or the result.
 fn event_of<B: TermBank>(rt: &impl Abort, engine: &mut Engine<B>, tracer: &mut Tracer) -> Event
     requires { Stands engine.old.spec (B.store engine.old.bank) tracer.old }
     ensures same { SameEngine engine.old engine.new }
@@ -148,7 +148,7 @@ fn event_of<B: TermBank>(rt: &impl Abort, engine: &mut Engine<B>, tracer: &mut T
     event
 }
 
-/// The rule and the redex of the next event, which is this firing.
+/// Returns the rule and the redex of the next event. Aborts the test unless it is this rewrite.
 fn fired_event<B: TermBank>(
     rt: &impl Abort,
     alloc: Global,
@@ -171,8 +171,7 @@ fn fired_event<B: TermBank>(
     (rule, redex)
 }
 
-/// Stops where the next event of a trace is another one than this firing, or where its redex
-/// becomes something else.
+/// Aborts the test unless the next event of a trace is this rewrite, with its replacement.
 fn expect_event<B: TermBank>(
     rt: &impl Abort,
     alloc: Global,
@@ -197,7 +196,7 @@ fn expect_event<B: TermBank>(
     );
 }
 
-/// Stops where the next event of a trace is no value of this text.
+/// Aborts the test unless the next event of a trace is the result with this text.
 fn expect_last_event<B: TermBank>(
     rt: &impl Abort,
     alloc: Global,
@@ -213,7 +212,7 @@ fn expect_last_event<B: TermBank>(
     expect_text(rt, alloc, engine.bank(), term, wanted);
 }
 
-/// Stops where the whole term has another text.
+/// Aborts the test unless the whole term has this text.
 fn expect_whole_term<B: TermBank>(
     rt: &impl Abort,
     alloc: Global,
@@ -229,7 +228,7 @@ fn expect_whole_term<B: TermBank>(
     expect_text(rt, alloc, engine.bank(), whole, wanted);
 }
 
-/// Stops where the next event of a trace is no firing.
+/// Aborts the test unless the next event of a trace is a rewrite.
 fn expect_unwritten<B: TermBank>(rt: &impl Abort, engine: &mut Engine<B>, tracer: &mut Tracer)
     requires { Stands engine.old.spec (B.store engine.old.bank) tracer.old }
     ensures same { SameEngine engine.old engine.new }
@@ -239,7 +238,7 @@ fn expect_unwritten<B: TermBank>(rt: &impl Abort, engine: &mut Engine<B>, tracer
     assert!(rt; matches!(event, Event::Fired { .. }));
 }
 
-/// Stops where a trace answers otherwise.
+/// Aborts the test unless a trace answers a request as expected.
 fn expect_asked<B: TermBank>(
     rt: &impl Abort,
     alloc: Global,
@@ -259,7 +258,7 @@ fn expect_asked<B: TermBank>(
     }
 }
 
-/// Stops unless the next step of a trace is over the limit.
+/// Aborts the test unless the next step of a trace exceeds the step limit.
 fn expect_limit<B: TermBank>(
     rt: &impl Abort,
     alloc: Global,
@@ -272,7 +271,7 @@ fn expect_limit<B: TermBank>(
     assert!(rt; matches!(turn, Turn::Limit));
 }
 
-/// The same of the next event.
+/// Aborts the test unless the next event of a trace exceeds the step limit.
 fn expect_limit_event<B: TermBank>(rt: &impl Abort, engine: &mut Engine<B>, tracer: &mut Tracer)
     requires { Stands engine.old.spec (B.store engine.old.bank) tracer.old }
 {
@@ -280,7 +279,7 @@ fn expect_limit_event<B: TermBank>(rt: &impl Abort, engine: &mut Engine<B>, trac
     assert!(rt; matches!(event, Event::Limit));
 }
 
-/// Stops where a trace answers otherwise at last.
+/// Aborts the test unless a trace answers the last request as expected.
 fn expect_last<B: TermBank>(
     rt: &impl Abort,
     alloc: Global,
@@ -298,7 +297,7 @@ fn expect_last<B: TermBank>(
     }
 }
 
-/// Stops where a trace that has begun answers otherwise.
+/// Aborts the test unless a trace that was started answers all requests as expected.
 fn follow<B: TermBank>(
     rt: &impl Abort,
     alloc: Global,
@@ -314,21 +313,21 @@ fn follow<B: TermBank>(
     expect_last(rt, alloc, engine, tracer, &trace.3);
 }
 
-/// Begins a trace, and stops where it answers otherwise.
+/// Starts a trace, and aborts the test unless it answers as expected.
 fn begin<B: TermBank>(rt: &impl Abort, alloc: Global, engine: &mut Engine<B>, trace: &Trace) {
     assert!(rt; engine.eval_terms() == 2 && trace.0 < 2);
     let mut tracer = Tracer::of_eval(alloc, engine, trace.0, trace.1).expect(rt, "a trace");
     follow(rt, alloc, engine, &mut tracer, trace);
 }
 
-/// Stops where another trace comes of an engine for the specification.
+/// Aborts the test unless an engine for the specification has these traces.
 pub fn ask<B: TermBank>(rt: &impl Abort, alloc: Global, engine: &mut Engine<B>, traced: &Traced) {
     for trace in *traced {
         begin(rt, alloc, engine, trace);
     }
 }
 
-/// The first step of the sum.
+/// The first rewrite of the sum.
 const FIRST: Fired = Fired {
     rule: 1,
     redex: b"add(s(z),s(z))",
@@ -336,7 +335,7 @@ const FIRST: Fired = Fired {
     left: 4,
 };
 
-/// The second one.
+/// The second rewrite of the sum.
 const SECOND: Fired = Fired {
     rule: 0,
     redex: b"add(z,s(z))",
@@ -344,7 +343,7 @@ const SECOND: Fired = Fired {
     left: 3,
 };
 
-/// Behind a condition of one step, which isn't told.
+/// A rewrite after a condition of one step, which is not shown.
 const BEHIND: Fired = Fired {
     rule: 2,
     redex: b"f(z)",
@@ -360,7 +359,7 @@ const SUM: Trace = (
     Last::Step(b"s(s(z))"),
 );
 
-/// The same beside the whole terms.
+/// The trace of the sum, with the whole terms.
 const WHOLE_TERMS: Trace = (
     0,
     5,
@@ -374,7 +373,7 @@ const WHOLE_TERMS: Trace = (
     Last::Step(b"s(s(z))"),
 );
 
-/// The same of a term with a condition.
+/// The trace of a term with a condition.
 const CONDITION: Trace = (1, 5, &[Asked::Step(&BEHIND)], Last::Step(b"s(z)"));
 
 /// The trace of the sum by events.
@@ -385,7 +384,7 @@ const EVENTS: Trace = (
     Last::Event(b"s(s(z))"),
 );
 
-/// The same where it is not written down what the first redex becomes.
+/// The trace of the sum by events, without the replacement of the first redex.
 const UNWRITTEN: Trace = (
     0,
     5,
@@ -393,13 +392,13 @@ const UNWRITTEN: Trace = (
     Last::Event(b"s(s(z))"),
 );
 
-/// The same of a term with a condition.
+/// The trace of a term with a condition, by events.
 const CONDITION_EVENTS: Trace = (1, 5, &[Asked::Event(&BEHIND)], Last::Event(b"s(z)"));
 
-/// A trace of no steps is at its limit.
+/// A trace without steps exceeds its limit at once.
 const NOTHING: Trace = (0, 0, &[], Last::StepOverLimit);
 
-/// The same by events.
+/// A trace without steps, by events.
 const NO_EVENT: Trace = (0, 0, &[], Last::EventOverLimit);
 
 const TRACES: [Traced; 7] = [
@@ -412,7 +411,7 @@ const TRACES: [Traced; 7] = [
     &[NOTHING, NO_EVENT],
 ];
 
-/// The engine of some traces.
+/// Returns the test case for these traces.
 fn case(traced: Traced) -> Case {
     Case {
         spec: SPEC,

@@ -1,8 +1,8 @@
-//! The lines of a trace.
+//! Tests of the lines of a trace.
 
 use crate::rows::banks::{plain_box, term_of};
 use crate::rows::texts::expect;
-use rec_trace::{Look, Spot, spot_of, write_firing, write_whole};
+use rec_trace::{Look, Margins, Rewrite, Spot, firing_line, spot_of, whole_line};
 use rx_plain::PlainBank;
 use rx_term::TermBank;
 use std::alloc::Global;
@@ -11,7 +11,7 @@ use std::process::Abort;
 /// Three lines, the second one empty.
 const TEXT: &[u8] = b"ab\n\nc";
 
-/// Places of that text, with their lines and columns.
+/// Offsets in that text, with their lines and columns.
 const SPOTS: [(usize, u64, u64); 5] = [(0, 1, 1), (2, 1, 3), (3, 2, 1), (4, 3, 1), (5, 3, 2)];
 
 const PLAIN: Look = Look {
@@ -29,7 +29,7 @@ const CUT: Look = Look {
     width: Some(7),
 };
 
-/// A redex, and what it becomes.
+/// A redex and its replacement.
 const ADDED: (&[u8], &[u8]) = (b"add(s(z),z)", b"s(add(z,z))");
 
 /// A redex of seven bytes.
@@ -44,16 +44,16 @@ fn spots(rt: HostRuntime) {
     }
 }
 
-/// Whose line it is.
+/// The kind of line.
 #[derive(Drop)]
 enum Told {
-    /// A firing's, of the texts of a redex and what it becomes.
+    /// A rewrite, with the texts of the redex and its replacement.
     Firing((&'static [u8], &'static [u8])),
-    /// That of the whole term `s(add(z,z))`.
+    /// The whole term `s(add(z,z))`.
     Whole,
 }
 
-/// Whose line it is, a look, and the line.
+/// The kind of line, its form, and the line.
 type Row = (Told, Look, &'static str);
 
 const FIRINGS: [Row; 4] = [
@@ -77,7 +77,7 @@ const WHOLE_TERMS: [Row; 3] = [
     (Told::Whole, CUT, "12:1: s(ad...\n"),
 ];
 
-/// The line of a firing, in this bank.
+/// Writes the line of a rewrite, in this store.
 fn line_of_firing(
     rt: &impl Abort,
     alloc: Global,
@@ -92,13 +92,16 @@ fn line_of_firing(
         line: 7,
         column: 10,
     };
-    let mut line = Vec::new(alloc);
-    let written = write_firing(alloc, bank, spot, redex, contractum, 3, look, &mut line);
-    assert!(rt; written.is_ok());
-    line
+    let rewrite = Rewrite { redex, contractum };
+    let margins = Margins {
+        spot,
+        spent: 3,
+        look,
+    };
+    firing_line(alloc, bank, rewrite, margins).expect(rt, "the line of a firing")
 }
 
-/// The line of the whole term, in this bank.
+/// Writes the line of the whole term, in this store.
 fn line_of_whole(rt: &impl Abort, alloc: Global, bank: &mut PlainBank, look: Look) -> Vec<u8> {
     let whole = term_of(rt, alloc, bank, b"s(add(z,z))");
     assert!(rt; bank.holds(whole));
@@ -106,13 +109,15 @@ fn line_of_whole(rt: &impl Abort, alloc: Global, bank: &mut PlainBank, look: Loo
         line: 12,
         column: 1,
     };
-    let mut line = Vec::new(alloc);
-    let written = write_whole(alloc, bank, spot, whole, 40, look, &mut line);
-    assert!(rt; written.is_ok());
-    line
+    let margins = Margins {
+        spot,
+        spent: 40,
+        look,
+    };
+    whole_line(alloc, bank, whole, margins).expect(rt, "the line of a whole term")
 }
 
-/// Stops where another line is written in this bank.
+/// Aborts the test unless the line is as expected.
 fn expect_line(rt: &impl Abort, alloc: Global, bank: &mut PlainBank, row: &Row) {
     let line = match &row.0 {
         Told::Firing(texts) => line_of_firing(rt, alloc, bank, *texts, row.1),
@@ -121,7 +126,7 @@ fn expect_line(rt: &impl Abort, alloc: Global, bank: &mut PlainBank, row: &Row) 
     expect(rt, line.as_slice() == row.2.as_bytes(), row.2);
 }
 
-/// The same of each row.
+/// Aborts the test unless the lines of test cases are as expected.
 fn expect_lines(rt: &impl Abort, alloc: Global, bank: &mut PlainBank, rows: &[Row]) {
     for row in rows {
         expect_line(rt, alloc, bank, row);

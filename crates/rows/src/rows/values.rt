@@ -1,4 +1,4 @@
-//! The engine's calls beside evaluation: values that the caller makes, and values that are kept.
+//! Tests of the engine's calls with values that the caller makes, and of protected values.
 
 ghost use Rattle.std.specs.Prelude.{◌≡◌, ◌<◌, IsSome, length};
 ghost use Rattle.rx_term.specs.Store.{tree_at};
@@ -9,20 +9,22 @@ use crate::rows::banks::expect_text;
 use crate::rows::cases::{Bank, Case, OPTIONS, Question, expect_cases};
 use crate::rows::engine::{ADD, TWENTY, is_room, outcome_of, value_of};
 use crate::rows::lent::makes_values_on;
-use rec_engine::{Engine, Outcome};
+use rec_engine::{Engine, Limits, Outcome};
 use rx_term::{Term, TermBank};
 use smallvec::SmallVec;
 use std::alloc::Global;
 use std::process::Abort;
 
-/// The symbols of the addition, by their numbers.
+/// The symbol `z`. The constants are the numbers of the symbols of the addition.
 pub const ZERO: u32 = 0;
 
+/// The symbol `s`.
 pub const SUCCESSOR: u32 = 1;
 
+/// The symbol `add`.
 pub const ADDITION: u32 = 2;
 
-/// Stops unless there is a symbol of this number, with so many arguments.
+/// Aborts the test unless there is a symbol with this number and this number of arguments.
 fn expect_symbol<B: TermBank>(rt: &impl Abort, engine: &Engine<B>, symbol: u32, count: u32)
     ensures declared { symbol < length (symbols engine.now.spec) }
     ensures counted { arity_of engine.now.spec symbol ≡ count }
@@ -32,7 +34,7 @@ fn expect_symbol<B: TermBank>(rt: &impl Abort, engine: &Engine<B>, symbol: u32, 
     assert!(rt; checked.arity(symbol) == count);
 }
 
-/// The constant of a symbol; beside it a reference is kept.
+/// Makes the constant of a symbol. Another reference stays valid.
 pub fn constant<B: TermBank>(
     rt: &impl Abort,
     engine: &mut Engine<B>,
@@ -44,7 +46,7 @@ pub fn constant<B: TermBank>(
     engine.apply(kept, symbol, &[]).expect(rt, "a constant")
 }
 
-/// The application of a symbol to a value, which is kept.
+/// Makes the application of a symbol to a value, which stays valid.
 pub fn apply_to<B: TermBank>(
     rt: &impl Abort,
     engine: &mut Engine<B>,
@@ -58,7 +60,7 @@ pub fn apply_to<B: TermBank>(
         .expect(rt, "an application")
 }
 
-/// Stops unless two values are there, and can be added.
+/// Aborts the test unless two values are in the store and can be added.
 pub fn expect_addends<B: TermBank>(rt: &impl Abort, engine: &Engine<B>, both: (Term, Term))
     ensures first { IsSome (tree_at (B.store engine.now.bank) both.0) }
     ensures second { IsSome (tree_at (B.store engine.now.bank) both.1) }
@@ -70,7 +72,7 @@ pub fn expect_addends<B: TermBank>(rt: &impl Abort, engine: &Engine<B>, both: (T
     expect_symbol(rt, engine, ADDITION, 2);
 }
 
-/// The sum of two values, of which no step is done; the first one is kept.
+/// Makes the sum of two values without evaluating it. The first one stays valid.
 fn sum_of<B: TermBank>(
     rt: &impl Abort,
     engine: &mut Engine<B>,
@@ -82,7 +84,7 @@ fn sum_of<B: TermBank>(
         .expect(rt, "an application")
 }
 
-/// What the sum of two values comes to within `n` steps; the first one is kept.
+/// Evaluates the sum of two values within `n` steps. The first one stays valid.
 fn call_on_both<B: TermBank>(
     rt: &impl Abort,
     engine: &mut Engine<B>,
@@ -91,32 +93,31 @@ fn call_on_both<B: TermBank>(
 ) -> Outcome {
     expect_addends(rt, engine, (first, second));
     engine
-        .call(first, ADDITION, &[first, second], n)
+        .call(first, ADDITION, &[first, second], Limits::of_steps(n))
         .expect(rt, "an outcome")
 }
 
-/// The values `s(z)` and `z`.
+/// Makes the values `s(z)` and `z`.
 pub fn one_and_zero<B: TermBank>(rt: &impl Abort, engine: &mut Engine<B>) -> (Term, Term) {
     let empty = engine.nil().expect(rt, "the empty list");
     let zero = constant(rt, engine, empty, ZERO);
     (apply_to(rt, engine, SUCCESSOR, zero), zero)
 }
 
-/// Stops unless this is the value, in two steps.
+/// Aborts the test unless this is the result, after two steps.
 pub fn expect_in_two(rt: &impl Abort, outcome: Outcome, wanted: Term) {
     let (value, steps) = value_of(outcome).expect(rt, "a value");
     assert!(rt; value == wanted && steps == 2);
 }
 
-/// The list of one value.
+/// Makes the list of one value.
 fn list_of<B: TermBank>(rt: &impl Abort, engine: &mut Engine<B>, value: Term) -> Term {
     let empty = engine.nil().expect(rt, "the empty list");
     assert!(rt; engine.bank().holds(value));
     engine.hold(value, empty).expect(rt, "a list")
 }
 
-/// Stops where a value of the addition has another text, or a sum takes other steps. In
-/// `add(s(z),z)` the second rule is used, and then the first.
+/// Aborts the test unless the values and the sum that are made have the expected texts.
 fn makes_values<B: TermBank>(rt: &impl Abort, alloc: Global, engine: &mut Engine<B>) {
     let empty = engine.nil().expect(rt, "the empty list");
     expect_text(rt, alloc, engine.bank(), empty, b"[]");
@@ -128,7 +129,8 @@ fn makes_values<B: TermBank>(rt: &impl Abort, alloc: Global, engine: &mut Engine
     expect_text(rt, alloc, engine.bank(), list, b"[add(s(z),z)]");
 }
 
-/// The same of calls.
+/// Aborts the test unless a call with values takes two steps: `add(s(z),z)` is rewritten by the
+/// second rule and then by the first.
 fn calls_values<B: TermBank>(rt: &impl Abort, alloc: Global, engine: &mut Engine<B>) {
     let both = one_and_zero(rt, engine);
     assert!(rt; value_of(call_on_both(rt, engine, both, 1)).is_none());
@@ -136,7 +138,7 @@ fn calls_values<B: TermBank>(rt: &impl Abort, alloc: Global, engine: &mut Engine
     expect_text(rt, alloc, engine.bank(), both.0, b"s(z)");
 }
 
-/// The first rule that matches a term.
+/// Returns the first rule that matches a term.
 fn first_rule<B: TermBank>(
     rt: &impl Abort,
     alloc: Global,
@@ -151,7 +153,8 @@ fn first_rule<B: TermBank>(
         .expect(rt, "an answer")
 }
 
-/// Stops where another rule matches `add(s(z),z)` than the second one, or any matches `s(z)`.
+/// Aborts the test unless the second rule is the first that matches `add(s(z),z)`, and none matches
+/// `s(z)`.
 fn tells_rules<B: TermBank>(rt: &impl Abort, alloc: Global, engine: &mut Engine<B>) {
     let both = one_and_zero(rt, engine);
     let sum = sum_of(rt, engine, both);
@@ -159,7 +162,7 @@ fn tells_rules<B: TermBank>(rt: &impl Abort, alloc: Global, engine: &mut Engine<
     assert!(rt; first_rule(rt, alloc, engine, both.0).is_none());
 }
 
-/// Whether there is no room for the term of a number.
+/// Returns whether the store is too small for an EVAL term.
 fn lacks_room<B: TermBank>(rt: &impl Abort, engine: &mut Engine<B>, i: u32) -> bool
     ensures { (B.store engine.new.bank).roots ≡ (B.store engine.old.bank).roots }
 {
@@ -167,7 +170,7 @@ fn lacks_room<B: TermBank>(rt: &impl Abort, engine: &mut Engine<B>, i: u32) -> b
     is_room(engine.eval_term(i).err())
 }
 
-/// The value of the first term, which is a root.
+/// Evaluates the first EVAL term, and protects the result.
 fn protected_value<B: TermBank>(rt: &impl Abort, engine: &mut Engine<B>) -> Term
     ensures { 0 < (B.store engine.new.bank).roots result.0 }
 {
@@ -177,8 +180,9 @@ fn protected_value<B: TermBank>(rt: &impl Abort, engine: &mut Engine<B>) -> Term
     value
 }
 
-/// Stops unless the value of the first term keeps its four cells while it is protected, so that
-/// there is no room for the three more of the second term, and gives them up afterwards.
+/// Aborts the test unless the result of the first EVAL term keeps its four cells while it is
+/// protected, so that there is no room for the three more of the second term, and frees them
+/// afterwards.
 fn keeps_protected<B: TermBank>(rt: &impl Abort, alloc: Global, engine: &mut Engine<B>) {
     let value = protected_value(rt, engine);
     assert!(rt; lacks_room(rt, engine, 1));
@@ -187,7 +191,7 @@ fn keeps_protected<B: TermBank>(rt: &impl Abort, alloc: Global, engine: &mut Eng
     assert!(rt; !lacks_room(rt, engine, 1));
 }
 
-/// What is done with values.
+/// The subject of a test of values.
 #[derive(Drop)]
 pub enum Values {
     Make,
@@ -204,7 +208,7 @@ const MADE: Case = Case {
     question: Question::Values(Values::Make),
 };
 
-/// On a stack that is lent.
+/// With a stack of the caller.
 const MADE_ON: Case = Case {
     spec: ADD,
     options: OPTIONS,
@@ -233,7 +237,7 @@ const PROTECTED: Case = Case {
     question: Question::Values(Values::Protect),
 };
 
-/// Stops where something else comes of values.
+/// Aborts the test unless values behave as expected.
 pub fn ask<B: TermBank>(rt: &impl Abort, alloc: Global, engine: &mut Engine<B>, values: &Values) {
     match values {
         Values::Make => makes_values(rt, alloc, engine),

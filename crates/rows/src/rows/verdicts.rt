@@ -1,11 +1,11 @@
-//! The rules, row by row.
+//! Tests of the well-formedness rules of specifications.
 
 use crate::rows::texts::{Nest, Q, checked_spec, expect, spec_of};
 use rec_sorts::{Checked, Letter, Meaning, SortFault, check};
 use std::alloc::Global;
 use std::process::Abort;
 
-/// A part of the specification, what it becomes, and the rule that is broken then, with its place.
+/// A part of the specification, its new text, and the violated rule with its offset.
 type Changed = (&'static str, &'static str, (u8, u32));
 
 const CHANGED: [Changed; 16] = [
@@ -27,7 +27,8 @@ const CHANGED: [Changed; 16] = [
     ("EVAL f(a)", "EVAL f(X)", (11, 96)),
 ];
 
-/// A specification that breaks rules at two places, and the one that is told, with its place.
+/// A specification that violates rules at two offsets, and the error that is reported, with its
+/// offset.
 type Refused = (&'static str, (u8, u32));
 
 const REFUSED: [Refused; 3] = [
@@ -46,7 +47,8 @@ const REFUSED: [Refused; 3] = [
     ),
 ];
 
-/// The rule that a specification breaks, and where; none of number 0 stands for want of memory.
+/// Returns the rule that a specification violates, and its offset. The number 0 means out of
+/// memory.
 fn fault(rt: &impl Abort, alloc: Global, text: &[u8]) -> Option<(u8, u32)> {
     match check(alloc, spec_of(rt, alloc, text)) {
         Err(SortFault::Rule { number, at }) => Some((number, at)),
@@ -55,7 +57,7 @@ fn fault(rt: &impl Abort, alloc: Global, text: &[u8]) -> Option<(u8, u32)> {
     }
 }
 
-/// The specification with a part changed.
+/// Returns the specification with a part changed.
 fn changed_spec(rt: &impl Abort, alloc: Global, part: &str, changed: &str) -> String {
     Q.replace(alloc, part, changed).expect(rt, "a text")
 }
@@ -82,7 +84,7 @@ fn good(rt: HostRuntime) {
     assert!(rt; fault(&rt, rt.alloc(), Q.as_bytes()) == None);
 }
 
-/// A text of more than 100,000 bytes, with one term of 34,000 words `s` around `z`.
+/// A specification of more than 100,000 bytes, with one term of 34,000 symbols `s` around `z`.
 const DEEP: Nest = Nest {
     before: b"REC-SPEC N SORTS A CONS z : -> A s : A -> A EVAL ",
     open: b"s(",
@@ -92,7 +94,7 @@ const DEEP: Nest = Nest {
     depth: 34_000,
 };
 
-/// The same around a word that isn't declared.
+/// A specification with the same term around an undeclared word.
 const DEEP_FAULT: Nest = Nest {
     inner: b"y",
     ..DEEP

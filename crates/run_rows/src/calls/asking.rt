@@ -1,4 +1,4 @@
-//! What rows ask of a work, and how their answers are compared.
+//! The calls of test cases, and the comparison of their results.
 
 use psilt_work::evaluating::Normalised;
 use psilt_work::{Fault, Work};
@@ -6,10 +6,10 @@ use rx_term::{Kind, Term};
 use std::alloc::Global;
 use std::process::Abort;
 
-/// The name under which a row keeps a term, a pattern or a symbol.
+/// The name under which a test case keeps a term, a pattern or a symbol.
 pub(crate) type Name = &'static str;
 
-/// A call, whose terms come by their names, after its pattern or its symbol.
+/// A call. Its terms are given by their names, after its pattern or its symbol.
 pub(crate) enum Call {
     Int(i32),
     Nil,
@@ -39,7 +39,7 @@ pub(crate) enum Call {
     Name,
     Place,
     Rule,
-    /// With the entries of its memo, and after how many new cells it reclaims.
+    /// The specification, the capacity of the memo table, and the collection interval.
     Specify(&'static [u8], u32, u32),
     Unspecify,
     Normalise(u64),
@@ -52,37 +52,37 @@ pub(crate) enum Call {
     Make,
     Symbol(&'static [u8], bool, u32),
     Apply,
-    /// A number itself.
+    /// The number itself.
     Number(u32),
-    /// The number behind another one.
+    /// The successor of another number.
     Next,
-    /// Whether two numbers are one.
+    /// Whether two numbers are equal.
     IsOne,
 }
 
-/// What a call has to come to.
+/// The expected result of a call.
 pub(crate) enum Due {
-    /// Something that is kept under a name from there on.
+    /// A new value, which is kept under this name.
     Kept(Name),
-    /// The same after so many steps.
+    /// A new value, which is kept under this name, and a number of steps.
     KeptAfter(Name, u64),
-    /// The very one that is kept under a name.
+    /// The value that is kept under this name.
     Known(Name),
-    /// The same after so many steps.
+    /// The value that is kept under this name, and a number of steps.
     KnownAfter(Name, u64),
     Number(usize),
     Flag(bool),
     Done,
-    /// The text of the work, with its length.
+    /// The text that the call left, with its length.
     Text(&'static [u8]),
     Not(Fault),
 }
 
-/// A call, the names of what it is given, and what it has to come to.
+/// A call, the names of its arguments, and the expected result.
 pub(crate) type Row = (Call, &'static [Name], Due);
 
-/// What a call came to: the number of a term, of a pattern or of a symbol, another number, 1 where
-/// something holds, or 0; and how many steps an evaluation took.
+/// The result of a call: the number of a term, a pattern or a symbol, another number, 1 for true,
+/// or 0; and the number of steps of an evaluation.
 #[derive(Clone, Copy)]
 struct Answer {
     number: usize,
@@ -91,7 +91,7 @@ struct Answer {
 
 type Came = Result<Answer, Fault>;
 
-/// A number, of no evaluation.
+/// Converts a number.
 fn of_number(came: Result<usize, Fault>) -> Came {
     match came {
         Ok(number) => Ok(Answer { number, steps: 0 }),
@@ -99,7 +99,7 @@ fn of_number(came: Result<usize, Fault>) -> Came {
     }
 }
 
-/// A number of 32 bits.
+/// Converts a number of 32 bits.
 fn of_count(came: Result<u32, Fault>) -> Came {
     match came {
         Ok(n) => of_number(Ok(n as usize)),
@@ -107,7 +107,7 @@ fn of_count(came: Result<u32, Fault>) -> Came {
     }
 }
 
-/// The number of a term.
+/// Converts a term.
 fn of_term(came: Result<Term, Fault>) -> Came {
     match came {
         Ok(t) => of_count(Ok(t.0)),
@@ -115,7 +115,7 @@ fn of_term(came: Result<Term, Fault>) -> Came {
     }
 }
 
-/// Whether something holds.
+/// Converts a truth value.
 fn of_flag(came: Result<bool, Fault>) -> Came {
     match came {
         Ok(holds) => of_number(Ok(holds as usize)),
@@ -123,7 +123,7 @@ fn of_flag(came: Result<bool, Fault>) -> Came {
     }
 }
 
-/// What is done.
+/// Converts a result without a value.
 fn of_done(came: Result<(), Fault>) -> Came {
     match came {
         Ok(()) => of_number(Ok(0)),
@@ -131,7 +131,7 @@ fn of_done(came: Result<(), Fault>) -> Came {
     }
 }
 
-/// What an evaluation came to.
+/// Converts the result of an evaluation.
 fn of_value(came: Result<Normalised, Fault>) -> Came {
     match came {
         Ok(value) => Ok(Answer {
@@ -142,27 +142,28 @@ fn of_value(came: Result<Normalised, Fault>) -> Came {
     }
 }
 
-/// The given number at a place. Rows give as many as their calls take.
+/// Returns the argument with this index. Test cases have the number of arguments that their calls
+/// take.
 fn given_at(given: &[u32], i: usize) -> u32 {
     if i < given.len() { given[i] } else { u32::MAX }
 }
 
-/// The first given term.
+/// Returns the first argument as a term.
 fn first(given: &[u32]) -> Term {
     Term(given_at(given, 0))
 }
 
-/// The second given term.
+/// Returns the second argument as a term.
 fn second(given: &[u32]) -> Term {
     Term(given_at(given, 1))
 }
 
-/// The number of a given pattern or symbol.
+/// Returns the number of the pattern or symbol that is the first argument.
 fn number(given: &[u32]) -> usize {
     given_at(given, 0) as usize
 }
 
-/// What is given behind a pattern or a symbol.
+/// Returns the arguments after a pattern or a symbol.
 fn rest(given: &[u32]) -> &[u32] {
     match given {
         [_, rest @ ..] => rest,
@@ -170,7 +171,7 @@ fn rest(given: &[u32]) -> &[u32] {
     }
 }
 
-/// Makes of terms.
+/// Runs calls that make terms.
 fn make(alloc: Global, work: &mut Work, given: &[u32], call: &Call) -> Came {
     match call {
         Call::Int(z) => of_term(work.int(*z)),
@@ -183,17 +184,17 @@ fn make(alloc: Global, work: &mut Work, given: &[u32], call: &Call) -> Came {
     }
 }
 
-/// Whether an application was found.
+/// Returns whether this is an application.
 fn is_appl(kind: Result<Kind, Fault>) -> bool {
     matches!(kind, Ok(Kind::Appl(_)))
 }
 
-/// Whether an integer was found, and is this one.
+/// Returns whether this is an integer with the value `z`.
 fn is_int(kind: Result<Kind, Fault>, z: i32) -> bool {
     kind == Ok(Kind::Int(z))
 }
 
-/// What a term is.
+/// Runs calls that inspect a term.
 fn take_apart(alloc: Global, work: &mut Work, t: Term, given: &[u32], call: &Call) -> Came {
     match call {
         Call::IsAppl => of_flag(Ok(is_appl(work.kind(t)))),
@@ -206,7 +207,7 @@ fn take_apart(alloc: Global, work: &mut Work, t: Term, given: &[u32], call: &Cal
     }
 }
 
-/// Parts of terms.
+/// Runs calls that return parts of a term.
 fn take_part(alloc: Global, work: &mut Work, t: Term, given: &[u32], call: &Call) -> Came {
     match call {
         Call::Args => of_term(work.args(t)),
@@ -219,7 +220,7 @@ fn take_part(alloc: Global, work: &mut Work, t: Term, given: &[u32], call: &Call
     }
 }
 
-/// What stays.
+/// Runs calls that protect and collect.
 fn keep(alloc: Global, work: &mut Work, t: Term, given: &[u32], call: &Call) -> Came {
     match call {
         Call::Cells => of_count(Ok(work.cells())),
@@ -233,7 +234,7 @@ fn keep(alloc: Global, work: &mut Work, t: Term, given: &[u32], call: &Call) -> 
     }
 }
 
-/// Texts and evaluations.
+/// Runs calls that read, write and evaluate.
 fn evaluate(alloc: Global, work: &mut Work, t: Term, given: &[u32], call: &Call) -> Came {
     match call {
         Call::Read(text) => of_term(work.read(alloc, text)),
@@ -248,7 +249,7 @@ fn evaluate(alloc: Global, work: &mut Work, t: Term, given: &[u32], call: &Call)
     }
 }
 
-/// Patterns and symbols.
+/// Runs calls with patterns and symbols.
 fn match_terms(alloc: Global, work: &mut Work, n: usize, terms: &[u32], call: &Call) -> Came {
     match call {
         Call::Pattern(text) => of_number(work.pattern(alloc, text)),
@@ -262,7 +263,7 @@ fn match_terms(alloc: Global, work: &mut Work, n: usize, terms: &[u32], call: &C
     }
 }
 
-/// What is asked of no work. A call that is in no group comes to a fault that is due in no row.
+/// Runs calls that need no store. A call of no group has an error that no test case expects.
 fn count(n: usize, others: &[u32], call: &Call) -> Came {
     match call {
         Call::Number(n) => of_count(Ok(*n)),
@@ -272,7 +273,7 @@ fn count(n: usize, others: &[u32], call: &Call) -> Came {
     }
 }
 
-/// The numbers of terms, patterns and symbols that rows keep.
+/// The numbers of terms, patterns and symbols that test cases keep.
 #[derive(Drop)]
 struct Kept {
     names: Vec<(Name, usize)>,
@@ -284,19 +285,19 @@ impl Kept {
         assert!(rt; self.names.push((name, number)).is_ok());
     }
 
-    /// The number that is kept under a name.
+    /// Returns the number that is kept under a name.
     fn number(&self, rt: &impl Abort, name: Name) -> usize {
         let found = self.names.iter().find(|(known, _)| *known == name);
         let (_, number) = found.expect(rt, name);
         *number
     }
 
-    /// The same where it has 32 bits.
+    /// Returns the number of 32 bits that is kept under a name.
     fn short(&self, rt: &impl Abort, name: Name) -> u32 {
         u32::try_from(self.number(rt, name)).expect(rt, name)
     }
 
-    /// The numbers that are kept under names.
+    /// Returns the numbers that are kept under these names.
     fn numbers(&self, rt: &impl Abort, alloc: Global, names: &[Name]) -> Vec<u32> {
         let mut numbers = Vec::new(alloc);
         for name in names {
@@ -306,7 +307,7 @@ impl Kept {
     }
 }
 
-/// Whether an answer is the one that is due; it is kept where that is due.
+/// Returns whether a result is the expected one, and keeps it if that is expected.
 fn is_answer(rt: &impl Abort, text: &[u8], kept: &mut Kept, came: Answer, due: &Due) -> bool {
     match due {
         Due::Kept(name) => {
@@ -329,7 +330,7 @@ fn is_answer(rt: &impl Abort, text: &[u8], kept: &mut Kept, came: Answer, due: &
     }
 }
 
-/// Whether a fault is the one that is due.
+/// Returns whether an error is the expected one.
 fn is_fault(came: Fault, due: &Due) -> bool {
     match due {
         Due::Not(fault) => came == *fault,
@@ -337,7 +338,7 @@ fn is_fault(came: Fault, due: &Due) -> bool {
     }
 }
 
-/// Whether a call came to what is due.
+/// Returns whether a call has the expected result or error.
 fn is_due(rt: &impl Abort, text: &[u8], kept: &mut Kept, came: Came, due: &Due) -> bool {
     match came {
         Ok(answer) => is_answer(rt, text, kept, answer, due),
@@ -345,15 +346,15 @@ fn is_due(rt: &impl Abort, text: &[u8], kept: &mut Kept, came: Came, due: &Due) 
     }
 }
 
-/// Whether a row's call of a work comes to what is due.
+/// Runs the call of a test case, and returns whether it has the expected result.
 fn holds(rt: &impl Abort, alloc: Global, work: &mut Work, kept: &mut Kept, row: &Row) -> bool {
     let given = kept.numbers(rt, alloc, row.1);
     let came = make(alloc, work, &given, &row.0);
     is_due(rt, work.text.as_slice(), kept, came, &row.2)
 }
 
-/// Asks each row of a work; stops where one comes to something else, and tells which one of its
-/// table, from 0.
+/// Runs test cases in order. Aborts the test, with the index of the test case, if one has another
+/// result.
 pub(crate) fn ask(rt: &impl Abort, alloc: Global, work: &mut Work, rows: &[Row]) {
     let mut kept = Kept {
         names: Vec::new(alloc),

@@ -1,4 +1,4 @@
-//! The rows of each test: calls, and what they were worked out to come to by hand.
+//! The test cases: calls, and their results, which were derived by hand.
 
 use crate::calls::asking::{Call, Due, Row};
 use psilt_work::Fault;
@@ -9,7 +9,7 @@ const ADD: &[u8] = b"REC-SPEC Add SORTS Nat \
     VARS X Y : Nat RULES plus(z,Y) -> Y plus(s(X),Y) -> s(plus(X,Y)) \
     EVAL plus(s(s(z)),s(z)) z END-SPEC";
 
-/// A sort that is declared twice.
+/// A specification with a duplicate sort.
 const TWICE: &[u8] = b"REC-SPEC A SORTS B B CONS OPNS VARS RULES EVAL END-SPEC";
 
 /// The first calls of a store.
@@ -81,7 +81,7 @@ pub(crate) const KEEPS: [Row; 14] = [
     (Call::Reserve(93), &[], Due::Not(Fault::Full)),
 ];
 
-/// What is refused of a text.
+/// Errors of texts.
 pub(crate) const REFUSES: [Row; 5] = [
     (Call::Read(b"f(1,,2)"), &[], Due::Not(Fault::Syntax)),
     (Call::Place, &[], Due::Number(4)),
@@ -90,7 +90,7 @@ pub(crate) const REFUSES: [Row; 5] = [
     (Call::Print, &["t"], Due::Text(b"f")),
 ];
 
-/// A term of the handle's own store is evaluated, whose value is a term of it too.
+/// A term of the handle's own store is evaluated, and its normal form is in that store too.
 pub(crate) const EVALUATES: [Row; 32] = [
     (Call::Specify(ADD, 0, 1_000), &[], Due::Done),
     (Call::Read(b"plus(s(z),s(z)){note}"), &[], Due::Kept("t")),
@@ -103,7 +103,7 @@ pub(crate) const EVALUATES: [Row; 32] = [
     (Call::Normalise(100), &["first"], Due::KeptAfter("value", 3)),
     (Call::Print, &["value"], Due::Text(b"s(s(s(z)))")),
     (Call::EvalTerm(2), &[], Due::Not(Fault::Range)),
-    // What is refused of terms and of specifications.
+    // Errors of terms and of specifications.
     (Call::Read(b"plus(s(z),4)"), &[], Due::Kept("unruled")),
     (Call::Normalise(9), &["unruled"], Due::Not(Fault::Rule)),
     (Call::Rule, &[], Due::Number(2)),
@@ -126,7 +126,7 @@ pub(crate) const EVALUATES: [Row; 32] = [
     ),
     (Call::Specify(ADD, 0, 0), &[], Due::Not(Fault::Range)),
     (Call::EvalTerms, &[], Due::Number(2)),
-    // Without a specification nothing is evaluated, and terms stay.
+    // Without a specification nothing can be evaluated, but terms stay.
     (Call::Read(b"s(z)"), &[], Due::Kept("left")),
     (Call::Unspecify, &[], Due::Done),
     (Call::Unspecify, &[], Due::Not(Fault::Unspecified)),
@@ -136,7 +136,7 @@ pub(crate) const EVALUATES: [Row; 32] = [
     (Call::Print, &["left"], Due::Text(b"s(z)")),
 ];
 
-/// What is remembered of terms that are given up is forgotten.
+/// Memoized results of terms that are freed are forgotten.
 pub(crate) const REMEMBERS: [Row; 8] = [
     (Call::Specify(ADD, 1_024, 1), &[], Due::Done),
     (Call::Read(b"plus(s(s(z)),s(s(z)))"), &[], Due::Kept("t")),
@@ -152,7 +152,7 @@ pub(crate) const REMEMBERS: [Row; 8] = [
     (Call::Print, &["value"], Due::Text(b"s(s(s(s(z))))")),
 ];
 
-/// Two patterns at once, one of which is let go.
+/// Two patterns at once, one of which is dropped.
 pub(crate) const MATCHES: [Row; 22] = [
     (Call::Pattern(b"f(<int>,<list>)"), &[], Due::Kept("pair")),
     (Call::Pattern(b"<appl>"), &[], Due::Kept("other")),
@@ -186,7 +186,7 @@ pub(crate) const MATCHES: [Row; 22] = [
     (Call::MatchTerm, &["other", "t"], Due::Number(1)),
 ];
 
-/// What is refused of a pattern, of a match and of a make.
+/// Errors of a pattern, of a match and of a construction.
 pub(crate) const REFUSED_PATTERNS: [Row; 19] = [
     (Call::Pattern(b"f(1,,2)"), &[], Due::Not(Fault::Syntax)),
     (Call::Place, &[], Due::Number(4)),
@@ -221,7 +221,7 @@ pub(crate) const REFUSED_PATTERNS: [Row; 19] = [
     (Call::Make, &["unknown"], Due::Not(Fault::Unknown)),
 ];
 
-/// A binding is known until terms are given up.
+/// A binding is known until terms are freed.
 pub(crate) const FORGETS_BINDINGS: [Row; 9] = [
     (Call::Pattern(b"<term>"), &[], Due::Kept("pattern")),
     (Call::Read(b"f(1)"), &[], Due::Kept("t")),

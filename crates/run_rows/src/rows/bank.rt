@@ -1,18 +1,23 @@
-//! What runs ask of their bank.
+//! Tests of the use of the store by runs.
 
 ghost use Rattle.std.specs.Prelude.{◌≡◌, ◌≤◌, ◌^◌, ℕ};
 
 use crate::rows::counting::{Counting, Counts};
 use crate::rows::given::run_beside;
 use crate::rows::{ADD, Q, expect_ran, push, push_often};
-use rec_run::{Ended, Ending, Finish, RunFault, RunOptions, run, run_in};
+use rec_run::{
+    EndedWithin, LimitLines, NoTerms, RunOptions, RunReport, RunSettings, ValueForm, run, run_over,
+    unobserved,
+};
+use rx_run::{Ending, Finish, RunFault};
 use rx_shared::SharedBank;
 use rx_term::TermBank;
+use rx_text::Input;
 use std::alloc::Global;
 use std::process::Abort;
 
-/// Numbers of bits, the lowest one outside: `spin` counts for ever, each time by a call with
-/// nothing behind it; `dive` does so by calls within calls.
+/// Binary numbers, with the lowest digit outside. `spin` counts without end by tail calls; `dive`
+/// counts by nested calls.
 macro_rules! counter {
     ($term:literal) => {
         concat!(
@@ -37,22 +42,22 @@ const DIVE: &str = counter!("dive(e)");
 
 const TICK: &str = counter!("tick(e)");
 
-/// What a run over a counting bank came to.
+/// The result of a run over a counting store.
 #[derive(Drop)]
 struct Counted {
-    end: Result<Ending, RunFault>,
+    end: Result<RunReport, RunFault>,
     written: Vec<u8>,
     counts: Counts,
-    /// How much the last evaluation needed.
+    /// The number of references that the last evaluation needed.
     needed: usize,
-    /// How many cells the bank has in the end, and how many it may have.
+    /// The number of cells at the end, and the capacity.
     cells: u32,
     cap: u32,
 }
 
-/// What is to be told of a run.
-fn tell<B: TermBank + Drop>(ended: Ended<Counting<B>>, written: Vec<u8>) -> Counted {
-    let Ended {
+/// Collects the results of a run.
+fn tell<B: TermBank + Drop>(ended: EndedWithin<Counting<B>>, written: Vec<u8>) -> Counted {
+    let EndedWithin {
         end,
         bank,
         needed: list,
@@ -73,8 +78,20 @@ fn tell<B: TermBank + Drop>(ended: Ended<Counting<B>>, written: Vec<u8>) -> Coun
     }
 }
 
-/// A run of a specification over a bank.
-fn run_over<B: TermBank + Drop>(
+/// Returns settings with bare limit lines and without a call-depth limit.
+fn settings(options: RunOptions) -> RunSettings
+    ensures { result.options ≡ options }
+{
+    RunSettings {
+        options,
+        limits: LimitLines::Bare,
+        form: ValueForm::Plain,
+        depth: None,
+    }
+}
+
+/// Runs a specification over a store.
+fn run_alone_over<B: TermBank + Drop>(
     alloc: Global,
     bank: B,
     mut spec: &[u8],
@@ -84,24 +101,25 @@ fn run_over<B: TermBank + Drop>(
     requires limit { (B.store bank).cap ≡ options.cells }
 {
     let mut written = Vec::new(alloc);
-    let ended = run_in(
+    let ended = run_over(
         alloc,
         Counting::new(bank),
         &mut spec,
-        None::<&mut &[u8]>,
+        &mut NoTerms,
         &mut written,
-        options,
+        settings(options),
+        &mut unobserved(),
     );
     tell(ended, written)
 }
 
-/// A run of a specification over a bank that counts.
+/// Runs a specification over a counting store.
 fn run_counted(rt: &impl Abort, alloc: Global, spec: &str, options: RunOptions) -> Counted {
     let bank = SharedBank::new(alloc, options.cells).expect(rt, "memory");
-    run_over(alloc, bank, spec.as_bytes(), options)
+    run_alone_over(alloc, bank, spec.as_bytes(), options)
 }
 
-/// A run of a specification and given terms over a bank.
+/// Runs a specification and input terms over a store.
 fn run_beside_over<B: TermBank + Drop>(
     alloc: Global,
     bank: B,
@@ -113,18 +131,19 @@ fn run_beside_over<B: TermBank + Drop>(
     requires limit { (B.store bank).cap ≡ options.cells }
 {
     let mut written = Vec::new(alloc);
-    let ended = run_in(
+    let ended = run_over(
         alloc,
         Counting::new(bank),
         &mut spec,
-        Some(&mut terms),
+        &mut Input::new(&mut terms),
         &mut written,
-        options,
+        settings(options),
+        &mut unobserved(),
     );
     tell(ended, written)
 }
 
-/// A run of a specification and given terms over a bank that counts.
+/// Runs a specification and input terms over a counting store.
 fn run_beside_counted(
     rt: &impl Abort,
     alloc: Global,
@@ -136,7 +155,8 @@ fn run_beside_counted(
     run_beside_over(alloc, bank, spec.as_bytes(), terms.as_bytes(), options)
 }
 
-/// So many steps, cells from 1 to a million, no memo, and a reclaim after 1,000 new cells.
+/// Returns options with this step limit and capacity (1 to 1,000,000), without a memo table, that
+/// collect after 1,000 new cells.
 fn thousand(steps: u32, cells: u32) -> RunOptions {
     RunOptions {
         steps: u64::from(steps),
@@ -147,24 +167,30 @@ fn thousand(steps: u32, cells: u32) -> RunOptions {
     }
 }
 
-/// Stops where a run wrote other lines, or met a fault.
+/// Aborts the test if a run wrote other lines, or failed.
 fn expect_counted(rt: &impl Abort, counted: &Counted, lines: &str) {
     assert!(rt;
-        matches!(counted.end, Ok(Ending::Done)) && counted.written.as_slice() == lines.as_bytes(),
+        matches!(
+            counted.end,
+            Ok(RunReport {
+                ending: Ending::Done,
+                ..
+            })
+        ) && counted.written.as_slice() == lines.as_bytes(),
         "{lines}"
     );
 }
 
-/// Stops where there were not as many reclaims as thousands of new cells, within one, or hardly
-/// any, or the longest one was handed fewer references.
+/// Aborts the test unless there were at least 20,000 new cells, as many collections as thousands of
+/// them or one less, and one with a list of roots of at least `longest` references.
 fn expect_thousands(rt: &impl Abort, counts: &Counts, longest: usize) {
     let thousands = counts.cells / 1_000;
     assert!(rt; thousands >= 20 && counts.reclaims <= thousands);
     assert!(rt; thousands - counts.reclaims <= 1 && counts.longest >= longest);
 }
 
-/// A specification that counts for ever, the most steps, their line, and how many references the
-/// longest reclaim was handed at least.
+/// A specification that counts without end, the step limit, the line, and a lower bound of the
+/// longest list of roots.
 type Endless = (&'static str, u32, &'static str, usize);
 
 static ENDLESS: [Endless; 2] = [
@@ -181,7 +207,7 @@ fn a_reclaim_for_each_thousand_cells(rt: HostRuntime) {
     }
 }
 
-/// A million steps of calls with nothing behind them need no more than numbers of twenty bits do.
+/// A million steps of tail calls need no more than numbers of twenty bits.
 #[test]
 fn last_calls_need_nothing(rt: HostRuntime) {
     let spun = run_counted(&rt, rt.alloc(), SPIN, thousand(1_000_000, 2_000));
@@ -189,7 +215,7 @@ fn last_calls_need_nothing(rt: HostRuntime) {
     assert!(rt; spun.counts.longest < 50 && spun.cells < 1_200);
 }
 
-/// A constant is asked for once, and not in each of many steps; nothing else is made there.
+/// A constant is made once, and not again in each of many steps. Nothing more is made there.
 #[test]
 fn constants_are_made_once(rt: HostRuntime) {
     let ticked = run_counted(&rt, rt.alloc(), TICK, thousand(10_000, 1_000_000));
@@ -197,7 +223,7 @@ fn constants_are_made_once(rt: HostRuntime) {
     assert!(rt; ticked.counts.makes < 50);
 }
 
-/// The default options of the program, with so many steps.
+/// Returns the default options of the program with this step limit.
 fn default_options(steps: u64) -> RunOptions
     requires { steps ≤ 10 ^ 18 }
 {
@@ -210,7 +236,8 @@ fn default_options(steps: u64) -> RunOptions
     }
 }
 
-/// Adds a specification that takes 3,377,699,720,527,870 steps, nearly all of which are remembered.
+/// Appends a specification that takes 3,377,699,720,527,870 steps, nearly all of which are
+/// memoized.
 fn push_fast(rt: &impl Abort, text: &mut String) {
     push(
         rt,
@@ -228,7 +255,7 @@ fn push_fast(rt: &impl Abort, text: &mut String) {
     push(rt, text, ") END-SPEC");
 }
 
-/// Stops where a run of a specification alone ends otherwise than done, or writes other lines.
+/// Aborts the test unless a run of a specification succeeds with these lines.
 fn expect_run(rt: &impl Abort, alloc: Global, mut text: &[u8], options: RunOptions, lines: &str) {
     let mut written = Vec::new(alloc);
     let end = run(alloc, &mut text, None::<&mut &[u8]>, &mut written, options);
@@ -249,14 +276,14 @@ fn remembered_steps(rt: HostRuntime) {
     expect_run(&rt, rt.alloc(), text.as_bytes(), fewer, line);
 }
 
-/// Three cells.
+/// Returns options with a store of three cells.
 fn three_cells() -> RunOptions {
     let mut options = default_options(9);
     options.cells = 3;
     options
 }
 
-/// `[]`, `a` and `[a]` are three cells, and of `[b,a]` there are five.
+/// `[]`, `a` and `[a]` are three cells; `[b,a]` has five.
 #[test]
 fn given_terms_in_three_cells(rt: HostRuntime) {
     let short = run_beside(rt.alloc(), Q.as_bytes(), b"[b,a]", three_cells());
@@ -265,18 +292,18 @@ fn given_terms_in_three_cells(rt: HostRuntime) {
     expect_ran(&rt, &refused, Finish::Refused, None, "!terms T2\n");
 }
 
-/// Stops where a run ended otherwise than by want of cells, or another number of them is left.
+/// Aborts the test unless a run ended with a full store that has this number of cells.
 fn expect_full(rt: &impl Abort, counted: &Counted, cells: u32) {
     assert!(rt; matches!(counted.end, Err(RunFault::Room { lines: 0 })));
     assert!(rt; counted.cells == cells && counted.cap == cells);
 }
 
-/// Stops where anything was needed, given back or written.
+/// Aborts the test if a reference was needed, a cell was freed, or a line was written.
 fn expect_untouched(rt: &impl Abort, counted: &Counted) {
     assert!(rt; counted.needed == 0 && counted.counts.reclaims == 0 && counted.written.is_empty());
 }
 
-/// The text of the terms fills the bank before anything is needed, and nothing is given back.
+/// The text of the terms fills the store before anything is needed, and nothing is freed.
 #[test]
 fn given_terms_fill_a_bank_of_three_cells(rt: HostRuntime) {
     let short = run_beside_counted(&rt, rt.alloc(), Q, "[b,a]", three_cells());
@@ -284,7 +311,7 @@ fn given_terms_fill_a_bank_of_three_cells(rt: HostRuntime) {
     expect_untouched(&rt, &short);
 }
 
-/// Adds a specification with so many terms to evaluate.
+/// Appends a specification with `count` terms to evaluate.
 fn push_terms(rt: &impl Abort, text: &mut String, count: u32) {
     push(
         rt,
@@ -311,8 +338,8 @@ fn a_thousand_terms(rt: HostRuntime) {
     );
 }
 
-/// A sum's term has eight cells, and its value two besides; the term, the empty list and a few
-/// values on the way are needed.
+/// The term of a sum has eight cells, and its normal form has two more. The term, the empty list
+/// and a few intermediate results are needed.
 #[test]
 fn want_of_cells_leaves_a_full_bank(rt: HostRuntime) {
     let short = run_counted(&rt, rt.alloc(), ADD, thousand(3, 9));

@@ -1,15 +1,16 @@
-//! Runs with few cells.
+//! Runs with small stores.
 
 use crate::rows::spec::{expect_lines, run_alone};
 use crate::rows::{ADD, Ran, options, push, push_often};
-use rec_run::{Finish, RunFault, RunOptions};
+use rec_run::RunOptions;
+use rx_run::{Finish, RunFault};
 use std::alloc::Global;
 use std::process::Abort;
 
-/// The line of the sum's value.
+/// The line of the sum.
 const SUM: &[u8] = b"s(s(s(z)))\n";
 
-/// A bank of so many cells, at least one and at most a million, and a reclaim after each new one.
+/// Returns options with this capacity (1 to 1,000,000), that collect after each new cell.
 fn narrow(steps: u32, cells: u32) -> RunOptions {
     RunOptions {
         steps: u64::from(steps),
@@ -20,8 +21,8 @@ fn narrow(steps: u32, cells: u32) -> RunOptions {
     }
 }
 
-/// Stops where so many cells ran out that are enough, or there were enough that are too few: less
-/// than ten are too few, and 64 are enough. Nothing is written where they ran out.
+/// Aborts the test unless the run fails if the store has less than ten cells, and succeeds if it
+/// has 64 or more. A run that fails writes nothing.
 fn expect_sum(rt: &impl Abort, ran: &Ran, cells: u32) {
     let is_done = ran.result == Ok(Finish::Done) && ran.written.as_slice() == SUM;
     let is_short = ran.result == Err(RunFault::Room { lines: 0 }) && ran.written.is_empty();
@@ -36,7 +37,7 @@ fn few_cells(rt: HostRuntime) {
     }
 }
 
-/// Adds the numbers from 1 to 20, each between two texts.
+/// Appends the numbers from 1 to 20, each between two texts.
 fn push_numbers(rt: &impl Abort, alloc: Global, text: &mut String, front: &str, back: &str) {
     for i in 1..=20 {
         let item = format!(in alloc; "{front}{i}{back}").expect(rt, "memory");
@@ -44,7 +45,7 @@ fn push_numbers(rt: &impl Abort, alloc: Global, text: &mut String, front: &str, 
     }
 }
 
-/// Adds a specification of twenty constants, with a term of each.
+/// Appends a specification of twenty constants, with a term of each.
 fn push_constants(rt: &impl Abort, alloc: Global, text: &mut String) {
     push(rt, text, "REC-SPEC K SORTS N CONS");
     push_numbers(rt, alloc, text, " c", " : -> N");
@@ -53,7 +54,7 @@ fn push_constants(rt: &impl Abort, alloc: Global, text: &mut String) {
     push(rt, text, " END-SPEC");
 }
 
-/// No steps and a bank of sixteen cells, with a reclaim as seldom as by default.
+/// Returns options with no steps, a store of sixteen cells, and the default collection interval.
 fn sixteen_cells() -> RunOptions {
     let mut few = narrow(0, 16);
     few.reclaim = 262_144;
@@ -76,7 +77,7 @@ fn cells_of_earlier_terms(rt: HostRuntime) {
     );
 }
 
-/// Adds a specification whose one term is a tree of thirty times two symbols about `z`.
+/// Appends a specification whose one term nests two symbols thirty times around `z`.
 fn push_nested(rt: &impl Abort, text: &mut String) {
     push(
         rt,
@@ -93,7 +94,7 @@ fn push_nested(rt: &impl Abort, text: &mut String) {
     push(rt, text, " END-SPEC");
 }
 
-/// Adds the line of its value.
+/// Appends the line of its result.
 fn push_nested_line(rt: &impl Abort, text: &mut String) {
     push_often(rt, text, "s(", 30);
     push(rt, text, "z");
@@ -101,7 +102,7 @@ fn push_nested_line(rt: &impl Abort, text: &mut String) {
     push(rt, text, "\n");
 }
 
-/// Sixty steps and a bank of two hundred cells.
+/// Returns options with sixty steps and a store of two hundred cells.
 fn two_hundred_cells() -> RunOptions {
     let mut few = options(60, false);
     few.cells = 200;

@@ -1,23 +1,23 @@
-//! A bank that counts what is asked of it.
+//! A store that counts the calls that it receives.
 
 ghost use Rattle.std.specs.Prelude.{◌≡◌};
 
 use rx_term::{BankFault, Kind, RootsFull, Symbol, Term, TermBank};
 
-/// What was asked of a bank.
+/// The numbers of calls.
 #[derive(Clone, Copy, Drop)]
 pub(crate) struct Counts {
-    /// How many makes.
+    /// The number of terms that were made.
     pub(crate) makes: u64,
-    /// How many of them brought a new cell.
+    /// The number of them that took a new cell.
     pub(crate) cells: u64,
-    /// How many reclaims.
+    /// The number of collections.
     pub(crate) reclaims: u64,
-    /// The most references that a reclaim was handed.
+    /// The length of the longest list of roots.
     pub(crate) longest: usize,
 }
 
-/// A bank, and what was asked of it.
+/// A store with the counts of its calls.
 #[derive(Drop)]
 pub(crate) struct Counting<B> {
     pub(crate) bank: B,
@@ -25,7 +25,7 @@ pub(crate) struct Counting<B> {
 }
 
 impl<B> Counting<B> {
-    /// Nothing was asked so far.
+    /// Returns a wrapper with all counts zero.
     pub(crate) fn new(bank: B) -> Counting<B>
         ensures { result.bank ≡ bank }
     {
@@ -40,7 +40,7 @@ impl<B> Counting<B> {
 }
 
 impl<B: TermBank> Counting<B> {
-    /// A make, before which there were so many cells.
+    /// Counts a term that was made; `before` is the number of cells before.
     fn count(&mut self, before: u32)
         ensures { self.new.bank ≡ self.old.bank }
     {

@@ -1,16 +1,18 @@
-//! How many calls may wait: the term for its call, and each right side for the call in it.
+//! Tests of the call depth: one frame for the term, and one for each call in a right-hand side that
+//! is not a tail call.
 
 use crate::rows::streams::{Sink, bytewise, taking};
 use crate::rows::{addition, options};
-use rec_run::{Ending, Finish, LimitLines, RunDepthFault, RunOptions, RunSettings, run_within};
+use rec_run::{LimitLines, NoTerms, RunOptions, RunSettings, ValueForm, run_given, unobserved};
 use rec_serve::{Deaf, ServeSettings, run_serve};
+use rx_run::{Ending, Finish, RunFault};
 use std::alloc::Global;
 use std::process::Abort;
 
-/// Two additions, of which the second needs as many calls more as it has steps more.
+/// Two additions. The second one takes two more steps, and two more frames.
 const SUMS: &str = addition!("plus(z,z) plus(s(s(z)),z)");
 
-/// Options by which nothing is remembered: a call whose result is to be kept waits by itself too.
+/// Returns options without a memo table. A call that is to be memoized has a frame of its own.
 fn forgetful() -> RunOptions {
     let RunOptions {
         steps,
@@ -28,27 +30,29 @@ fn forgetful() -> RunOptions {
     }
 }
 
-/// How many calls may wait, how a run ends then, and the lines.
-type Ends = (Option<u32>, Result<Finish, RunDepthFault>, &'static str);
+/// The call-depth limit, the end of the run, and its lines.
+type Ends = (Option<u32>, Result<Finish, RunFault>, &'static str);
 
 static ENDS: [Ends; 4] = [
     (None, Ok(Finish::Done), "z\ns(s(z))\n"),
     (Some(3), Ok(Finish::Done), "z\ns(s(z))\n"),
-    (Some(2), Err(RunDepthFault::Deep { lines: 1 }), "z\n"),
-    (Some(0), Err(RunDepthFault::Deep { lines: 0 }), ""),
+    (Some(2), Err(RunFault::Deep { lines: 1 }), "z\n"),
+    (Some(0), Err(RunFault::Deep { lines: 0 }), ""),
 ];
 
-/// Stops where a run ends otherwise than a row says, or writes other lines.
+/// Aborts the test unless a run ends as expected, with these lines.
 fn expect_end(rt: &impl Abort, alloc: Global, out: &mut Sink, row: &Ends) {
     let (depth, due, lines) = *row;
     let settings = RunSettings {
         options: forgetful(),
         limits: LimitLines::Bare,
+        form: ValueForm::Plain,
         depth,
     };
     let mut spec = bytewise(SUMS);
-    let end = match run_within(alloc, &mut spec, None::<&mut &[u8]>, out, settings) {
-        Ok(ending) => Ok(ending.finish()),
+    let mut observer = unobserved();
+    let end = match run_given(alloc, &mut spec, &mut NoTerms, out, settings, &mut observer) {
+        Ok(report) => Ok(report.ending.finish()),
         Err(fault) => Err(fault),
     };
     assert!(rt;
@@ -64,7 +68,7 @@ fn as_many_calls_as_are_needed_may_wait_or_one_fewer(rt: HostRuntime) {
     }
 }
 
-/// How many calls may wait, and the answers to the requests then.
+/// The call-depth limit, and the responses to the requests.
 type Answers = (Option<u32>, &'static str);
 
 static ANSWERS: [Answers; 4] = [
@@ -74,11 +78,12 @@ static ANSWERS: [Answers; 4] = [
     (Some(1), "!depth\n!depth\n!term A\n!depth\n"),
 ];
 
-/// Stops where the requests have other answers than a row's.
+/// Aborts the test unless the requests have these responses.
 fn expect_answers(rt: &impl Abort, alloc: Global, out: &mut Sink, row: &Answers) {
     let (depth, lines) = *row;
     let settings = ServeSettings {
         options: forgetful(),
+        form: ValueForm::Plain,
         depth,
     };
     let mut requests = bytewise("plus(s(z),z)\nplus(s(s(z)),z)\nz(\nplus(s(z),z){a}");

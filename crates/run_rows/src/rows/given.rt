@@ -1,15 +1,17 @@
-//! Runs on given terms beside a specification.
+//! Runs of specifications with input terms.
 
 use crate::rows::streams::bytewise;
 use crate::rows::{ADD, Q, Ran, expect_ran, options, run_on};
 use rec_run::{
-    Ending, Finish, LimitLines, Named, Place, RunFault, RunOptions, RunSettings, Source,
-    refused_term, run_within,
+    LimitLines, RunOptions, RunReport, RunSettings, ValueForm, refused_term, run_given, unobserved,
 };
+use rx_run::{Ending, Finish, Named, Place, RunFault, Source};
+use rx_text::Input;
 use std::alloc::Global;
+use std::io::Read;
 use std::process::Abort;
 
-/// The rules of addition without a term.
+/// The rules of addition, without a term.
 const SUMS: &str = "REC-SPEC Add SORTS Nat \
     CONS z : -> Nat s : Nat -> Nat \
     OPNS plus : Nat Nat -> Nat \
@@ -20,7 +22,7 @@ const SUMS: &str = "REC-SPEC Add SORTS Nat \
 /// A specification whose one sort has no name.
 const SPOILT: &str = "REC-SPEC E SORTS : END-SPEC";
 
-/// A specification, the text of terms, the most steps of a term, whether they are counted, and the
+/// A specification, the text of input terms, the step limit, whether steps are printed, and the
 /// lines.
 type Value = (&'static str, &'static str, u32, bool, &'static str);
 
@@ -42,7 +44,25 @@ static VALUES: [Value; 9] = [
     (Q, "[f(f(a)){b}]", 1, true, "a\t1\n!limit 1\n"),
 ];
 
-/// The same where limit lines have annotations.
+/// Input terms with results of at most four bytes, and the same terms with at most three.
+static BOUNDED: [Value; 2] = [
+    (
+        Q,
+        "[f(a){b},b{a},f(f(a))]",
+        1,
+        true,
+        "a\t1\na{b}\t1\nb{a}\t0\n!limit 1\n",
+    ),
+    (
+        Q,
+        "[f(a){b},b{a},f(f(a))]",
+        1,
+        true,
+        "a\t1\n!bytes 3{b}\n!bytes 3{a}\n!limit 1\n",
+    ),
+];
+
+/// Test cases with annotations on limit lines.
 static ANNOTATED: [Value; 2] = [
     (
         Q,
@@ -60,7 +80,7 @@ static ANNOTATED: [Value; 2] = [
     ),
 ];
 
-/// A specification, the text of terms, and the line of its refusal.
+/// A specification, the text of input terms, and the error line.
 type Refused = (&'static str, &'static str, &'static str);
 
 static REFUSED: [Refused; 11] = [
@@ -77,7 +97,7 @@ static REFUSED: [Refused; 11] = [
     (Q, "[f(b)]", "!terms T6\n"),
 ];
 
-/// A specification, the text of terms, and which of them is refused.
+/// A specification, the text of input terms, and the index of the rejected one.
 type RefusedTerm = (&'static str, &'static str, Option<usize>);
 
 static REFUSED_TERMS: [RefusedTerm; 8] = [
@@ -91,7 +111,7 @@ static REFUSED_TERMS: [RefusedTerm; 8] = [
     (SPOILT, "[3]", None),
 ];
 
-/// What a run on a specification and the text of terms came to.
+/// Runs a specification with the text of input terms.
 pub(crate) fn run_beside(
     alloc: Global,
     mut spec: &[u8],
@@ -101,19 +121,46 @@ pub(crate) fn run_beside(
     run_on(alloc, &mut spec, Some(&mut terms), options)
 }
 
-/// Stops where a row's terms come to other lines with annotated limits.
-fn expect_annotated(rt: &impl Abort, alloc: Global, row: &Value) {
+/// Returns the number of limit lines in a text.
+fn limits_in(lines: &str) -> u64 {
+    let mut count = 0u64;
+    for line in lines.lines() {
+        if line.starts_with('!') {
+            count = count.saturating_add(1);
+        }
+    }
+    count
+}
+
+/// Runs a specification with input terms.
+fn run_with_terms<R: Read, T: Read>(
+    alloc: Global,
+    spec: &mut R,
+    terms: &mut T,
+    settings: RunSettings,
+    out: &mut Vec<u8>,
+) -> Result<RunReport, RunFault> {
+    let mut reader = Input::new(terms);
+    let mut observer = unobserved();
+    run_given(alloc, spec, &mut reader, out, settings, &mut observer)
+}
+
+/// Aborts the test unless a test case has these lines with annotated limit lines.
+fn expect_annotated(rt: &impl Abort, alloc: Global, row: &Value, form: ValueForm) {
     let mut spec = row.0.as_bytes();
     let mut terms = row.1.as_bytes();
     let mut written = Vec::new(alloc);
     let settings = RunSettings {
         options: options(row.2, row.3),
         limits: LimitLines::Annotated,
+        form,
         depth: None,
     };
-    let end = run_within(alloc, &mut spec, Some(&mut terms), &mut written, settings);
+    let end = run_with_terms(alloc, &mut spec, &mut terms, settings, &mut written);
     assert!(rt;
-        matches!(end, Ok(Ending::Done)) && written.as_slice() == row.4.as_bytes(),
+        matches!(end, Ok(RunReport { ending: Ending::Done, limit_lines })
+            if limit_lines == limits_in(row.4))
+            && written.as_slice() == row.4.as_bytes(),
         "{}",
         row.4
     );
@@ -122,11 +169,14 @@ fn expect_annotated(rt: &impl Abort, alloc: Global, row: &Value) {
 #[test]
 fn limit_lines_with_annotations(rt: HostRuntime) {
     for row in &ANNOTATED {
-        expect_annotated(&rt, rt.alloc(), row);
+        expect_annotated(&rt, rt.alloc(), row, ValueForm::Plain);
     }
+    let [short, long] = &BOUNDED;
+    expect_annotated(&rt, rt.alloc(), short, ValueForm::Within(4));
+    expect_annotated(&rt, rt.alloc(), long, ValueForm::Within(3));
 }
 
-/// Stops where a row's terms come to other lines.
+/// Aborts the test unless a test case has these lines.
 fn expect_value(rt: &impl Abort, alloc: Global, row: &Value) {
     let options = options(row.2, row.3);
     let ran = run_beside(alloc, row.0.as_bytes(), row.1.as_bytes(), options);
@@ -140,7 +190,7 @@ fn values(rt: HostRuntime) {
     }
 }
 
-/// Stops where a row's terms are not refused, or another place is told.
+/// Aborts the test unless the input terms are rejected with this offset.
 fn expect_refused(rt: &impl Abort, alloc: Global, row: &Refused, place: Option<Place>) {
     let options = options(3, false);
     let ran = run_beside(alloc, row.0.as_bytes(), row.1.as_bytes(), options);
@@ -179,7 +229,7 @@ fn terms_of_a_refused_specification_are_not_read(rt: HostRuntime) {
     assert!(rt; terms.reads == 0);
 }
 
-/// Which term is refused, of which no fact is handed on.
+/// Returns the index of the rejected term. This wrapper has no contract.
 fn term_refused_in(alloc: Global, spec: &str, terms: &str) -> Result<Option<usize>, RunFault> {
     refused_term(alloc, spec.as_bytes(), terms.as_bytes())
 }

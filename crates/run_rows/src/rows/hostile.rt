@@ -1,22 +1,23 @@
-//! Each run over readers and writers that give or take one byte a call, where one call fails.
+//! Each kind of run over readers and writers that transfer one byte in each call, with one call
+//! that fails.
 
 use crate::rows::performing::{Job, expect_held, perform};
 use crate::rows::spec::NEQ;
 use crate::rows::streams::{Sink, Slow, bytewise, failing, failing_at, taking, unflushed};
 use crate::rows::{ADD, Q};
-use rec_run::{Finish, RunFault};
+use rx_run::{Finish, RunFault};
 use std::alloc::Global;
 use std::io::ErrorKind;
 use std::process::Abort;
 
-/// Errors of readers and writers, the one after which another call might succeed among them.
+/// Errors of readers and writers, including `Interrupted`, after which another call might succeed.
 const KINDS: [ErrorKind; 3] = [
     ErrorKind::Other,
     ErrorKind::Interrupted,
     ErrorKind::OutOfMemory,
 ];
 
-/// A run on two texts, of which it may read one alone, with how it ends and what it writes.
+/// A run on two texts, of which it may read only one, with its end and its output.
 struct Row {
     job: Job<'static>,
     first: &'static str,
@@ -140,7 +141,7 @@ static ROWS: [Row; 16] = [
     },
 ];
 
-/// Does the run of a row, with readers that do not fail.
+/// Runs a test case with readers that do not fail.
 fn perform_into(alloc: Global, row: &Row, out: &mut Sink) -> Result<Finish, RunFault> {
     let mut first = bytewise(row.first);
     let mut second = bytewise(row.second);
@@ -148,7 +149,7 @@ fn perform_into(alloc: Global, row: &Row, out: &mut Sink) -> Result<Finish, RunF
     perform(alloc, row.job, &mut first, &mut second, args, out)
 }
 
-/// Stops where a row's run into a writer ends otherwise, or the writer holds something else then.
+/// Aborts the test unless a run into a writer ends as expected, and the writer has these bytes.
 fn expect_into(
     rt: &impl Abort,
     alloc: Global,
@@ -176,8 +177,8 @@ fn one_byte_a_call(rt: HostRuntime) {
     }
 }
 
-/// Stops where a run goes on, or something is written, after a read of the first text or, in its
-/// turn, of the second failed.
+/// Aborts the test if a run continues or writes after a failed read of the first or the second
+/// text.
 fn expect_unread(
     rt: &impl Abort,
     alloc: Global,
@@ -190,8 +191,8 @@ fn expect_unread(
     expect_held(rt, ended, Err(RunFault::Read), &out, &[]);
 }
 
-/// Where a read of the first text fails, or, if its number is 0, one of the second; the second is
-/// not read where a read of the first fails.
+/// Lets a read of the first text fail or, if its number is 0, one of the second. The second text is
+/// not read after a failed read of the first.
 fn fail_read(rt: &impl Abort, alloc: Global, row: &Row, (i, k): (usize, usize), kind: ErrorKind) {
     let mut first = failing(row.first, i, kind);
     let mut second = failing(row.second, k, kind);
@@ -202,7 +203,7 @@ fn fail_read(rt: &impl Abort, alloc: Global, row: &Row, (i, k): (usize, usize), 
     );
 }
 
-/// Each read of a row's texts fails in its turn; arguments are no text that is read.
+/// Lets each read of the texts fail in turn. Arguments of `make` are not read.
 fn fail_reads(rt: &impl Abort, alloc: Global, row: &Row, kind: ErrorKind) {
     if matches!(row.job, Job::Make(_)) {
         return;
@@ -226,7 +227,7 @@ fn reads_fail(rt: HostRuntime) {
     }
 }
 
-/// Where the write after these bytes fails, they were written, and no more.
+/// If the write after these bytes fails, exactly these bytes were written.
 fn fail_write(rt: &impl Abort, alloc: Global, row: &Row, held: &[u8], error: Option<ErrorKind>) {
     let k = held.len().wrapping_add(1);
     let mut out = failing_at(alloc, k, error);
@@ -234,7 +235,7 @@ fn fail_write(rt: &impl Abort, alloc: Global, row: &Row, held: &[u8], error: Opt
     assert!(rt; out.writes == k, "{k}");
 }
 
-/// Each write of a row fails in its turn.
+/// Lets each write fail in turn.
 fn fail_writes(rt: &impl Abort, alloc: Global, row: &Row, error: Option<ErrorKind>) {
     let lines = row.lines.as_bytes();
     for before in 0..lines.len() {
@@ -252,7 +253,7 @@ fn writes_fail(rt: HostRuntime) {
     }
 }
 
-/// Where flushing fails, the lines were written.
+/// If a flush fails, the lines were written.
 #[test]
 fn flushes_fail(rt: HostRuntime) {
     for row in &ROWS {

@@ -1,15 +1,15 @@
-//! Texts of as many bytes as there may be, of one byte more, and without end.
+//! Runs on texts of the largest size, of one byte more, and without end.
 
 use crate::rows::given::run_beside;
 use crate::rows::performing::{Job, expect_held, perform};
 use crate::rows::spec::TITLE;
 use crate::rows::streams::{Slow, bytewise, endless, taking};
 use crate::rows::{LIMIT, PAST, Q, Ran, expect_ran, options, pad, run_on};
-use rec_run::Finish;
+use rx_run::Finish;
 use std::alloc::Global;
 use std::process::Abort;
 
-/// What a run on a specification, of which the slice keeps what is not read, came to.
+/// Runs a specification. The slice keeps the rest that is not read.
 fn run_without_steps(alloc: Global, spec: &mut &[u8]) -> Ran {
     run_on(alloc, spec, None::<&mut &[u8]>, options(0, false))
 }
@@ -21,11 +21,11 @@ fn the_longest_specification(rt: HostRuntime) {
     expect_ran(&rt, &ran, Finish::Done, None, "");
 }
 
-/// What stands past a text that is too long.
+/// The text after one that is too long.
 const REST: &[u8] = b"ab";
 
-/// Stops where a text that is too long is not refused, or a byte is read past the one that is too
-/// much.
+/// Aborts the test unless a text that is too long is rejected, and only its first byte too many is
+/// read.
 fn expect_rest(rt: &impl Abort, alloc: Global, mut text: &[u8], rest: &[u8]) {
     let ran = run_without_steps(alloc, &mut text);
     expect_ran(rt, &ran, Finish::Refused, None, "!spec L1\n");
@@ -47,7 +47,7 @@ fn the_longest_terms(rt: HostRuntime) {
     expect_ran(&rt, &ran, Finish::Done, None, "a\na\n");
 }
 
-/// Stops where a run is not refused by a line alone.
+/// Aborts the test unless a run is rejected with this line only.
 fn expect_long(
     rt: &impl Abort,
     alloc: Global,
@@ -61,7 +61,7 @@ fn expect_long(
     expect_held(rt, ended, Ok(Finish::Refused), &out, line);
 }
 
-/// Runs on blanks without end, and the line of the refusal.
+/// Runs on an endless text of spaces, and the error line.
 static ENDLESS: [(Job<'static>, &[u8]); 4] = [
     (Job::Alone(0), b"!spec L1\n"),
     (Job::Print, b"!term L1\n"),
@@ -78,7 +78,7 @@ fn blanks_without_end(rt: HostRuntime) {
     expect_long(&rt, rt.alloc(), Job::Beside(1), spec, &[], b"!terms L1\n");
 }
 
-/// Stops where a text is not refused as a pattern and as arguments.
+/// Aborts the test unless a text is rejected as a pattern and as arguments.
 fn expect_long_text(rt: &impl Abort, alloc: Global, long: &[u8], term: &mut Slow<'_>) {
     let line = b"!pattern L1\n";
     expect_long(rt, alloc, Job::Match(long), term, &[], line);

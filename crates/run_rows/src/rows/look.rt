@@ -1,13 +1,13 @@
-//! Texts of one term that are printed over several lines.
+//! Runs that print a term over several lines.
 
 use crate::rows::streams::{Sink, bytewise, failing, failing_at, taking};
-use rec_run::{Ending, Finish, Named, Place, Source, run_aterm};
-use rx_look::{LookFault, run_aterm_indented};
+use rx_look::run_aterm_indented;
+use rx_run::{Ending, Finish, Named, Place, RunFault, Source, run_aterm};
 use std::alloc::Global;
 use std::io::ErrorKind;
 use std::process::Abort;
 
-/// A text of a term, the blanks of a level, and the lines that are due.
+/// A text of a term, the number of spaces of a level, and the expected lines.
 type Row = (&'static str, u8, &'static str);
 
 static ROWS: [Row; 8] = [
@@ -31,21 +31,21 @@ static ROWS: [Row; 8] = [
 
 const REFUSAL: &[u8] = b"!term A\n";
 
-/// What printing a text in one line writes.
+/// Prints a text in one line.
 fn in_one_line(rt: &impl Abort, alloc: Global, mut text: &[u8]) -> Vec<u8> {
     let mut written = Vec::new(alloc);
     assert!(rt; run_aterm(alloc, &mut text, &mut written) == Ok(Finish::Done));
     written
 }
 
-/// Stops where two texts are not of the same term.
+/// Aborts the test unless two texts have the same term.
 fn expect_same(rt: &impl Abort, alloc: Global, text: &str, printed: &[u8]) {
     let first = in_one_line(rt, alloc, text.as_bytes());
     let again = in_one_line(rt, alloc, printed);
     assert!(rt; first.as_slice() == again.as_slice(), "{text}");
 }
 
-/// Stops where a text is printed otherwise, or what is printed is not the same term.
+/// Aborts the test unless a text is printed as expected, and the printed text has the same term.
 fn expect_laid(rt: &impl Abort, alloc: Global, row: &Row) {
     let (text, indent, lines) = *row;
     let mut written = Vec::new(alloc);
@@ -64,7 +64,7 @@ fn over_several_lines(rt: HostRuntime) {
     }
 }
 
-/// Stops where a text that is no term is not refused at its place.
+/// Aborts the test unless a text that is not a term is rejected at its offset.
 fn expect_refused(rt: &impl Abort, alloc: Global, written: &mut Vec<u8>, mut text: &[u8], at: u32) {
     let Ok(ending) = run_aterm_indented(alloc, &mut text, 1, written) else {
         panic!(rt; "a stream refused")
@@ -84,22 +84,23 @@ fn refused_at_its_place(rt: HostRuntime) {
     expect_refused(&rt, rt.alloc(), written, b"f(a,)", 4);
 }
 
-/// Stops where a failing read is told otherwise, or something was written.
+/// Aborts the test unless a failed read is reported, and nothing is written.
 fn expect_unread(rt: &impl Abort, alloc: Global, number: usize) {
     let mut input = failing("f(a)", number, ErrorKind::Other);
     let mut out = taking(alloc);
     let end = run_aterm_indented(alloc, &mut input, 1, &mut out);
-    assert!(rt; matches!(end, Err(LookFault::Read)) && out.held.is_empty());
+    assert!(rt; matches!(end, Err(RunFault::Read)) && out.held.is_empty());
 }
 
-/// What is due for `f(a)` with one blank for each level.
+/// The expected lines for `f(a)` with one space for each level.
 const DUE: &[u8] = b"f(\n a\n)\n";
 
-/// Stops where a failing write is told otherwise, or what was written is no front of what is due.
+/// Aborts the test unless a failed write is reported, and a prefix of the expected lines was
+/// written.
 fn expect_unwritten(rt: &impl Abort, alloc: Global, out: &mut Sink, number: usize) {
     let end = run_aterm_indented(alloc, &mut bytewise("f(a)"), 1, out);
     let held = out.held.as_slice();
-    assert!(rt; matches!(end, Err(LookFault::Write)));
+    assert!(rt; matches!(end, Err(RunFault::Write)));
     assert!(rt; DUE.starts_with(held) && held.len() == number.wrapping_sub(1));
 }
 

@@ -3,19 +3,19 @@
 use crate::rows::performing::{Job, perform};
 use crate::rows::streams::{Slow, bytewise, taking};
 use crate::rows::{Ran, expect_ran};
-use rec_run::{
+use rx_run::{
     Finish, Misfit, Named, Place, RunFault, Source, refused_argument, run_make_at, run_match_at,
 };
 use std::alloc::Global;
 use std::process::Abort;
 
-/// Whether a pattern is matched with a term, or makes one of arguments.
+/// Whether a term is matched, or made from arguments.
 enum Way {
     Match,
     Make,
 }
 
-/// A pattern with its way, the text of a term or of arguments, and the lines.
+/// A pattern with its kind of run, the text of a term or of arguments, and the lines.
 type Row = (Way, &'static str, &'static str, &'static str);
 
 static DONE: [Row; 16] = [
@@ -52,11 +52,11 @@ static DONE: [Row; 16] = [
     ),
 ];
 
-/// A text that is outside the grammar, and where.
+/// The text with a syntax error, and the offset.
 type Outside = Option<(Source, u32)>;
 
-/// A pattern with its way, the text of a term or of arguments, the line of the refusal, and the
-/// place.
+/// A pattern with its kind of run, the text of a term or of arguments, the error line, and the
+/// offset.
 type Refused = (Way, &'static str, &'static str, &'static str, Outside);
 
 static REFUSED: [Refused; 20] = [
@@ -100,7 +100,7 @@ static REFUSED: [Refused; 20] = [
     (Way::Make, "a", "", "!args A\n", Some((Source::Args, 0))),
 ];
 
-/// A pattern, the text of arguments, and which of them does not fit.
+/// A pattern, the text of arguments, and the argument that does not fit.
 type RefusedArgument = (&'static str, &'static str, Option<Misfit>);
 
 static REFUSED_ARGUMENTS: [RefusedArgument; 8] = [
@@ -132,7 +132,7 @@ static REFUSED_ARGUMENTS: [RefusedArgument; 8] = [
     ("f(<foo>)", "[]", None),
 ];
 
-/// What a match of a text's pattern with a text's term came to.
+/// Matches the pattern of a text against the term of a text.
 fn match_texts(alloc: Global, pattern: &str, mut input: &[u8]) -> Ran {
     let mut place = None;
     let mut written = Vec::new(alloc);
@@ -145,7 +145,7 @@ fn match_texts(alloc: Global, pattern: &str, mut input: &[u8]) -> Ran {
     }
 }
 
-/// What making of a text's arguments came to.
+/// Makes a term from a pattern and the text of arguments.
 fn make_texts(alloc: Global, pattern: &str, args: &[u8]) -> Ran {
     let mut place = None;
     let mut written = Vec::new(alloc);
@@ -157,7 +157,7 @@ fn make_texts(alloc: Global, pattern: &str, args: &[u8]) -> Ran {
     }
 }
 
-/// What a pattern's way came to.
+/// Runs a pattern.
 fn run_texts(alloc: Global, way: &Way, pattern: &str, text: &str) -> Ran {
     match way {
         Way::Match => match_texts(alloc, pattern, text.as_bytes()),
@@ -173,7 +173,7 @@ fn matches_and_makes(rt: HostRuntime) {
     }
 }
 
-/// Stops where a run is not refused by a line, or another place is told.
+/// Aborts the test unless a run is rejected with this line and this offset.
 fn expect_refused(rt: &impl Abort, ran: &Ran, line: &str, outside: Outside) {
     let place = match outside {
         None => None,
@@ -194,7 +194,7 @@ fn refused_matches_and_makes(rt: HostRuntime) {
     }
 }
 
-/// A pattern, how a match with the term `a` ends, and after how many reads.
+/// A pattern, the end of a match with the term `a`, and the number of reads.
 static READS: [(&str, Finish, usize); 5] = [
     ("<foo>", Finish::Refused, 0),
     ("<int>{a}", Finish::Refused, 0),
@@ -203,7 +203,7 @@ static READS: [(&str, Finish, usize); 5] = [
     ("a", Finish::Done, 2),
 ];
 
-/// How a match with a term that is read ends.
+/// Returns the end of a match with a term that is read.
 fn ended(alloc: Global, pattern: &str, input: &mut Slow<'_>) -> Result<Finish, RunFault> {
     let job = Job::Match(pattern.as_bytes());
     perform(
@@ -225,7 +225,7 @@ fn unread_inputs(rt: HostRuntime) {
     }
 }
 
-/// Which argument is refused, of which no fact is handed on.
+/// Returns the argument that is rejected. This wrapper has no contract.
 fn argument_refused_in(
     alloc: Global,
     pattern: &str,

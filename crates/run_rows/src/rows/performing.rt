@@ -1,12 +1,13 @@
-//! Each run over readers and writers that give or take one byte a call.
+//! The kinds of runs, over readers and writers that transfer one byte in each call.
 
 use crate::rows::options;
 use crate::rows::streams::{Sink, Slow};
-use rec_run::{Finish, RunFault, run, run_aterm, run_make, run_match, run_share};
+use rec_run::run;
+use rx_run::{Finish, RunFault, run_aterm, run_make, run_match, run_share};
 use std::alloc::Global;
 use std::process::Abort;
 
-/// A run, with the most steps of a term or the pattern that it is given.
+/// A kind of run, with its step limit or its pattern.
 #[derive(Clone, Copy)]
 pub(crate) enum Job<'a> {
     Alone(u32),
@@ -17,7 +18,7 @@ pub(crate) enum Job<'a> {
     Make(&'a [u8]),
 }
 
-/// Does a run on two texts, of which it may read one alone, or on the text of arguments.
+/// Runs on two texts, of which it may read only one, or on the text of arguments.
 pub(crate) fn perform(
     alloc: Global,
     job: Job<'_>,
@@ -39,7 +40,7 @@ pub(crate) fn perform(
     }
 }
 
-/// Stops where a run ended otherwise, or its writer holds something else.
+/// Aborts the test unless a run ended as expected, and its writer has these bytes.
 pub(crate) fn expect_held(
     rt: &impl Abort,
     ended: Result<Finish, RunFault>,

@@ -1,32 +1,32 @@
-//! Conversations over readers and writers that give or take one byte a call.
+//! Sessions over readers and writers that transfer one byte in each call.
+
+ghost use Rattle.std.specs.Prelude.{◌<◌, ◌≤◌};
 
 use crate::rows::streams::{Sink, Slow, bytewise, failing, failing_at, taking, unflushed};
 use crate::rows::{Q, options};
-use rec_engine::Engine;
-use rec_run::{Ending, engine_over, read_spec_text};
-use rec_serve::{
-    Deaf, Refusal, ServeFault, ServeSettings, Want, answer, answer_in, converse, run_serve,
-};
+use rec_engine::{Engine, EngineFault};
+use rec_run::{ValueForm, engine_over, read_spec_text};
+use rec_serve::{Deaf, Refusal, ServeFault, ServeSettings, answer, converse, run_serve};
 use rec_sorts::Checked;
-use rx_run::{Named, Place, Reading, Source};
+use rx_run::{Ending, Named, Place, Reading, Source};
 use rx_shared::SharedBank;
 use std::alloc::Global;
 use std::io::ErrorKind;
 use std::process::Abort;
 
-/// Requests for a specification, of each kind.
+/// Requests of each kind for a specification.
 const REQUESTS: &str = "f(a)\n\n f ( a ) {b}\nf(a\n3\nf(a{b})\nc\nf\nf(b)\nf(f(a))\nb";
 
-/// Their answers within one step.
+/// The responses with one step.
 const LINES: &str = "a\t1\n!term A\na{b}\t1\n!term A\n!term T2\n!term T3\n!term T4\n!term T5\n\
      !term T6\n!limit 1\nb\t0\n";
 
-/// How many lines were written whole.
+/// Returns the number of complete lines.
 fn lines_in(held: &[u8]) -> u64 {
     held.iter().filter(|byte| **byte == b'\n').count() as u64
 }
 
-/// The fault at which a conversation stopped, where there was one.
+/// Returns the error that ended a session, if there is one.
 fn fault_in(end: Result<Ending, ServeFault>) -> Option<ServeFault> {
     match end {
         Ok(_) => None,
@@ -34,39 +34,44 @@ fn fault_in(end: Result<Ending, ServeFault>) -> Option<ServeFault> {
     }
 }
 
-/// Stops where something else was written than a beginning of the answers.
+/// Aborts the test unless a prefix of the responses was written.
 fn expect_beginning(rt: &impl Abort, out: &Sink) {
     assert!(rt; LINES.as_bytes().starts_with(out.held.as_slice()));
 }
 
-/// What a conversation comes to, within one step that is counted.
+/// Returns settings with one step and without a call-depth limit.
+fn one_step(is_counted: bool) -> ServeSettings {
+    ServeSettings {
+        options: options(1, is_counted),
+        form: ValueForm::Plain,
+        depth: None,
+    }
+}
+
+/// Runs a session with one step for each request, which is printed.
 fn converse_with(
     alloc: Global,
     spec: &str,
     requests: &mut Slow<'_>,
     out: &mut Sink,
 ) -> Result<Ending, ServeFault> {
-    let settings = ServeSettings {
-        options: options(1, true),
-        depth: None,
-    };
     run_serve(
         alloc,
         &mut bytewise(spec),
         requests,
         out,
-        settings,
+        one_step(true),
         &mut Deaf,
     )
 }
 
-/// How many lines of a conversation were written whole, and the fault at which it stopped.
+/// Returns the number of complete lines of a session, and the error that ended it.
 fn stop(alloc: Global, requests: &mut Slow<'_>, out: &mut Sink) -> (u64, Option<ServeFault>) {
     let end = converse_with(alloc, Q, requests, out);
     (lines_in(out.held.as_slice()), fault_in(end))
 }
 
-/// A conversation whose reader fails at a read.
+/// Runs a session whose reader fails at read number `at`.
 fn fails_to_read(rt: &impl Abort, alloc: Global, out: &mut Sink, at: usize) {
     let mut requests = failing(REQUESTS, at, ErrorKind::Other);
     let (answered, fault) = stop(alloc, &mut requests, out);
@@ -77,7 +82,7 @@ fn fails_to_read(rt: &impl Abort, alloc: Global, out: &mut Sink, at: usize) {
     expect_beginning(rt, out);
 }
 
-/// One whose writer fails at a write, or takes nothing.
+/// Runs a session whose writer fails, or writes nothing, at write number `at`.
 fn fails_to_write(rt: &impl Abort, alloc: Global, out: &mut Sink, at: usize) {
     let (answered, fault) = stop(alloc, &mut bytewise(REQUESTS), out);
     assert!(rt;
@@ -87,7 +92,7 @@ fn fails_to_write(rt: &impl Abort, alloc: Global, out: &mut Sink, at: usize) {
     expect_beginning(rt, out);
 }
 
-/// One whose writer cannot be flushed, before which no request is read.
+/// Runs a session whose writer cannot be flushed. No request is read before.
 fn fails_to_flush(rt: &impl Abort, alloc: Global, out: &mut Sink, requests: &mut Slow<'_>) {
     let (_, fault) = stop(alloc, requests, out);
     assert!(rt; fault == Some(ServeFault::Write { answered: 0 }));
@@ -101,6 +106,29 @@ fn answers_each_request(rt: HostRuntime) {
     let mut requests = bytewise(REQUESTS);
     let end = converse_with(alloc, Q, &mut requests, &mut out);
     assert!(rt; matches!(end, Ok(Ending::Done)) && out.held.as_slice() == LINES.as_bytes());
+}
+
+#[test]
+fn long_values_are_not_written(rt: HostRuntime) {
+    let alloc = rt.alloc();
+    let mut out = taking(alloc);
+    let settings = ServeSettings {
+        options: options(1, true),
+        form: ValueForm::Within(4),
+        depth: None,
+    };
+    let mut spec = bytewise(Q);
+    let mut requests = bytewise("f(a)\nf(a){b}\nf(a){b,a}\nf(f(a))\nb{long}\nb");
+    let end = run_serve(
+        alloc,
+        &mut spec,
+        &mut requests,
+        &mut out,
+        settings,
+        &mut Deaf,
+    );
+    let due = b"a\t1\na{b}\t1\n!bytes 4\n!limit 1\n!bytes 4\nb\t0\n";
+    assert!(rt; matches!(end, Ok(Ending::Done)) && out.held.as_slice() == due.as_slice());
 }
 
 #[test]
@@ -118,7 +146,8 @@ fn breaks_off_where_a_stream_fails(rt: HostRuntime) {
     fails_to_flush(&rt, alloc, out, &mut bytewise(REQUESTS));
 }
 
-/// Stops where a specification without a sort's name is not refused before a request is read.
+/// Aborts the test unless a specification with a sort that has no name is rejected before a request
+/// is read.
 fn expect_spoilt(rt: &impl Abort, alloc: Global, out: &mut Sink, requests: &mut Slow<'_>) {
     let spec = "REC-SPEC E SORTS : END-SPEC";
     let Ok(ending) = converse_with(alloc, spec, requests, out) else {
@@ -139,7 +168,7 @@ fn a_refused_specification_is_enough(rt: HostRuntime) {
     expect_spoilt(&rt, rt.alloc(), out, &mut bytewise(REQUESTS));
 }
 
-/// An engine for a specification, over a bank of its own.
+/// Returns an engine for a specification, with its own store.
 fn engine_for(rt: &impl Abort, alloc: Global, mut spec: &[u8]) -> Box<Engine<SharedBank>> {
     let Ok(Reading::Good(checked)) = read_spec_text(alloc, &mut spec) else {
         panic!(rt; "a good specification")
@@ -147,14 +176,14 @@ fn engine_for(rt: &impl Abort, alloc: Global, mut spec: &[u8]) -> Box<Engine<Sha
     boxed_engine(rt, alloc, checked)
 }
 
-/// The engine of a specification that was read.
+/// Returns the engine of a specification that was read.
 fn boxed_engine(rt: &impl Abort, alloc: Global, checked: Checked) -> Box<Engine<SharedBank>> {
     let bank = SharedBank::new(alloc, 1000).expect(rt, "memory");
     let made = engine_over(alloc, checked, bank, None, options(1, false));
     boxed(rt, alloc, made)
 }
 
-/// An engine that was made.
+/// Returns the engine on the heap.
 fn boxed(
     rt: &impl Abort,
     alloc: Global,
@@ -166,7 +195,15 @@ fn boxed(
     Box::new(alloc, engine).expect(rt, "memory")
 }
 
-/// Stops where a request has another answer than this line, or is not refused so.
+/// Returns an empty store of this capacity for a request.
+fn store_of(rt: &impl Abort, alloc: Global, cells: u32) -> Box<SharedBank>
+    requires { (0 < cells) × (cells ≤ 1000) }
+{
+    let bank = SharedBank::new(alloc, cells).expect(rt, "memory");
+    Box::new(alloc, bank).expect(rt, "memory")
+}
+
+/// Aborts the test unless a request has this response.
 fn expect_answer(
     rt: &impl Abort,
     alloc: Global,
@@ -174,7 +211,8 @@ fn expect_answer(
     request: &[u8],
     due: Result<&[u8], Refusal>,
 ) {
-    let answered = answer(alloc, engine, request, options(1, false)).expect(rt, "memory");
+    let mut own = store_of(rt, alloc, 1000);
+    let answered = answer(alloc, &mut *own, engine, request, one_step(false)).expect(rt, "memory");
     let is_due = match due {
         Ok(line) => answered.text.as_slice() == line && answered.refusal.is_none(),
         Err(refusal) => answered.refusal == Some(refusal),
@@ -182,19 +220,18 @@ fn expect_answer(
     assert!(rt; is_due);
 }
 
-/// A request that has no room in a bank of three cells.
+/// Tests a request that does not fit into a store of three cells.
 fn wants_cells(rt: &impl Abort, alloc: Global, engine: &mut Engine<SharedBank>) {
-    let bank = SharedBank::new(alloc, 3).expect(rt, "memory");
-    let mut own = Box::new(alloc, bank).expect(rt, "memory");
-    let wanting = answer_in(alloc, &mut *own, engine, b"f(a)", options(1, false));
-    assert!(rt; matches!(wanting, Err(Want::Cells)));
+    let mut own = store_of(rt, alloc, 3);
+    let wanting = answer(alloc, &mut *own, engine, b"f(a)", one_step(false));
+    assert!(rt; matches!(wanting, Err(EngineFault::Room)));
 }
 
-/// A conversation over the engine.
+/// Runs a session with the engine.
 fn converses(rt: &impl Abort, alloc: Global, engine: &mut Engine<SharedBank>, out: &mut Sink) {
     let mut requests = bytewise("f(a)\nf(b)\n");
-    let options = options(1, false);
-    let end = converse(alloc, engine, &mut requests, out, options, &mut Deaf);
+    let settings = one_step(false);
+    let end = converse(alloc, engine, &mut requests, out, settings, &mut Deaf);
     assert!(rt; end == Ok(()) && out.held.as_slice() == b"a\n!term T6\n".as_slice());
 }
 

@@ -1,7 +1,8 @@
 //! Runs of worked specifications.
 
 use crate::rows::{ADD, Ran, addition, expect_ran, options, push, run_on};
-use rec_run::{Finish, Named, Place, RunOptions, Source};
+use rec_run::RunOptions;
+use rx_run::{Finish, Named, Place, Source};
 use std::alloc::Global;
 use std::process::Abort;
 
@@ -52,6 +53,7 @@ EVAL
 END-SPEC
 ";
 
+/// A specification with a condition that two terms differ.
 pub(crate) const NEQ: &str = "REC-SPEC Neq SORTS Nat
 CONS z : -> Nat  s : Nat -> Nat
 OPNS m : Nat Nat -> Nat
@@ -92,6 +94,7 @@ const IDLE: &str = "REC-SPEC Idle SORTS Nat Pair \
     RULES h(X) -> z if X -><- s(z) f(X) -> z d(X) -> p(f(X),f(X)) \
     EVAL f(h(z)) d(h(z)) END-SPEC";
 
+/// A specification without sections.
 pub(crate) const TITLE: &str = "REC-SPEC E END-SPEC";
 
 /// The sections of a specification, between its title and its end.
@@ -104,7 +107,7 @@ static SECTIONS: [&str; 6] = [
     "EVAL f(a)",
 ];
 
-/// A specification, the most steps of a term, whether they are counted, and the lines.
+/// A specification, the step limit, whether steps are printed, and the lines.
 type Value = (&'static str, u32, bool, &'static str);
 
 static VALUES: [Value; 22] = [
@@ -132,7 +135,7 @@ static VALUES: [Value; 22] = [
     (TITLE, 0, false, ""),
 ];
 
-/// The section that is changed, what it becomes, the line of the refusal, and its place.
+/// The index of the section that is changed, its new text, the error line, and its offset.
 type ChangedSection = (usize, &'static str, &'static str, Named, u32);
 
 static CHANGED_SECTIONS: [ChangedSection; 16] = [
@@ -166,7 +169,7 @@ static CHANGED_SECTIONS: [ChangedSection; 16] = [
     (5, "EVAL f()", "!spec S6\n", Named::S(6), 95),
 ];
 
-/// A specification, the line of its refusal, and the place.
+/// A specification, its error line, and the offset.
 type RefusedText = (&'static str, &'static str, Named, u32);
 
 static REFUSED_TEXTS: [RefusedText; 6] = [
@@ -189,12 +192,12 @@ static REFUSED_TEXTS: [RefusedText; 6] = [
     ("REC-SPEC E OPNS CONS END-SPEC", "!spec G\n", Named::G, 16),
 ];
 
-/// What a run on a specification alone came to.
+/// Runs a specification.
 pub(crate) fn run_alone(alloc: Global, mut text: &[u8], options: RunOptions) -> Ran {
     run_on(alloc, &mut text, None::<&mut &[u8]>, options)
 }
 
-/// Stops where a specification is refused, or comes to other lines.
+/// Aborts the test unless a specification has these lines.
 pub(crate) fn expect_lines(
     rt: &impl Abort,
     alloc: Global,
@@ -206,7 +209,7 @@ pub(crate) fn expect_lines(
     expect_ran(rt, &ran, Finish::Done, None, lines);
 }
 
-/// The same with a reclaim after each new cell.
+/// Returns options that collect after each new cell.
 fn reclaim_often(steps: u32, count: bool) -> RunOptions {
     let mut often = options(steps, count);
     often.reclaim = 1;
@@ -221,7 +224,7 @@ fn values(rt: HostRuntime) {
     }
 }
 
-/// Stops where a specification is not refused, or by another line or at another place.
+/// Aborts the test unless a specification is rejected with this line and offset.
 fn expect_refused(
     rt: &impl Abort,
     alloc: Global,
@@ -238,7 +241,7 @@ fn expect_refused(
     expect_ran(rt, &ran, Finish::Refused, Some(due), line);
 }
 
-/// Adds the specification with one section changed, each section on a line.
+/// Appends the specification with one section changed, each section on a line.
 fn push_sections(rt: &impl Abort, text: &mut String, changed: usize, section: &str) {
     push(rt, text, "REC-SPEC Q ");
     for (i, kept) in SECTIONS.iter().enumerate() {
@@ -248,15 +251,15 @@ fn push_sections(rt: &impl Abort, text: &mut String, changed: usize, section: &s
     push(rt, text, "END-SPEC\n");
 }
 
-/// Stops where the specification with one section changed is not refused as it should be.
+/// Aborts the test unless the specification with one section changed is rejected as expected.
 fn expect_changed(rt: &impl Abort, alloc: Global, row: &ChangedSection) {
     let mut text = String::new(alloc);
     push_sections(rt, &mut text, row.0, row.1);
     expect_refused(rt, alloc, text.as_str(), row.2, (row.3, row.4));
 }
 
-/// Stops where the specification as it is does not come to its one line, or is not refused with a
-/// text after it.
+/// Aborts the test unless the unchanged specification has its one line, and is rejected if a text
+/// follows it.
 fn expect_unchanged(rt: &impl Abort, alloc: Global, text: &mut String) {
     push_sections(rt, text, 0, SECTIONS[0]);
     expect_lines(rt, alloc, text.as_str(), options(1, false), "a\n");
@@ -281,7 +284,7 @@ fn refusals(rt: HostRuntime) {
     expect_refused(&rt, rt.alloc(), unended, "!spec G\n", (Named::G, 184));
 }
 
-/// The tree of `p` over a tree twice.
+/// Returns the tree of `p` with the same tree twice.
 fn pair(rt: &impl Abort, alloc: Global, part: &str) -> String {
     let mut tree = String::new(alloc);
     push(rt, &mut tree, "p(");
@@ -292,7 +295,7 @@ fn pair(rt: &impl Abort, alloc: Global, part: &str) -> String {
     tree
 }
 
-/// A tree of `p` over `z` with so many levels below its root.
+/// Returns a tree of `p` and `z` with this number of levels below its root.
 fn balanced_tree(rt: &impl Abort, alloc: Global, levels: u32) -> String {
     let mut tree = String::new(alloc);
     push(rt, &mut tree, "z");
@@ -302,7 +305,7 @@ fn balanced_tree(rt: &impl Abort, alloc: Global, levels: u32) -> String {
     tree
 }
 
-/// Adds a specification that gives a tree back.
+/// Appends a specification whose result is this tree.
 fn push_wide(rt: &impl Abort, text: &mut String, tree: &str) {
     push(
         rt,

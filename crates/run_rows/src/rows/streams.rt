@@ -1,11 +1,11 @@
-//! Readers and writers that fail, give little, or never end.
+//! Readers and writers that fail, transfer little, or never end.
 
 use std::alloc::Global;
 use std::io;
 use std::io::{ErrorKind, Read, Write};
 
-/// Gives one byte a read; the read of a number fails, and the next one succeeds again. Behind its
-/// bytes blanks may follow without end.
+/// A reader of one byte in each call. One read, by its number, fails, and the next one succeeds
+/// again. Endless spaces may follow its bytes.
 #[derive(Drop)]
 pub(crate) struct Slow<'a> {
     bytes: &'a [u8],
@@ -15,12 +15,12 @@ pub(crate) struct Slow<'a> {
     is_endless: bool,
 }
 
-/// A reader of which no read fails.
+/// Returns a reader that does not fail.
 pub(crate) fn bytewise(text: &str) -> Slow<'_> {
     failing(text, 0, ErrorKind::Other)
 }
 
-/// A reader of which one read fails.
+/// Returns a reader whose read number `fails_at` fails.
 pub(crate) fn failing(text: &str, fails_at: usize, kind: ErrorKind) -> Slow<'_> {
     Slow {
         bytes: text.as_bytes(),
@@ -31,7 +31,7 @@ pub(crate) fn failing(text: &str, fails_at: usize, kind: ErrorKind) -> Slow<'_> 
     }
 }
 
-/// A reader of blanks without end.
+/// Returns a reader of endless spaces.
 pub(crate) fn endless() -> Slow<'static> {
     let mut blanks = bytewise("");
     blanks.is_endless = true;
@@ -53,8 +53,8 @@ impl Read for Slow<'_> {
     }
 }
 
-/// Takes one byte a write. The write of a number fails, or takes nothing where there is no error to
-/// answer, and the next one succeeds again; flushing may fail.
+/// A writer of one byte in each call. One write, by its number, fails, or writes nothing if there
+/// is no error to report; the next one succeeds again. A flush may fail.
 #[derive(Drop)]
 pub(crate) struct Sink {
     pub(crate) held: Vec<u8>,
@@ -64,12 +64,12 @@ pub(crate) struct Sink {
     flush_error: Option<ErrorKind>,
 }
 
-/// A writer of which no write fails.
+/// Returns a writer that does not fail.
 pub(crate) fn taking(alloc: Global) -> Sink {
     failing_at(alloc, 0, None)
 }
 
-/// A writer of which one write fails.
+/// Returns a writer whose write number `fails_at` fails.
 pub(crate) fn failing_at(alloc: Global, fails_at: usize, error: Option<ErrorKind>) -> Sink {
     Sink {
         held: Vec::new(alloc),
@@ -80,7 +80,7 @@ pub(crate) fn failing_at(alloc: Global, fails_at: usize, error: Option<ErrorKind
     }
 }
 
-/// A writer of which flushing fails alone.
+/// Returns a writer that fails only in a flush.
 pub(crate) fn unflushed(alloc: Global, error: ErrorKind) -> Sink {
     let mut out = taking(alloc);
     out.flush_error = Some(error);

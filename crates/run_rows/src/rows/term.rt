@@ -1,7 +1,7 @@
-//! Texts of one term, printed and counted.
+//! Runs that print a term or count its cells.
 
 use crate::rows::{Ran, expect_ran};
-use rec_run::{Finish, Named, Place, Source, run_aterm_at, run_share_at};
+use rx_run::{Finish, Named, Place, Source, run_aterm_at, run_share_at};
 use std::alloc::Global;
 use std::process::Abort;
 
@@ -25,7 +25,7 @@ static PRINTED: [Row; 14] = [
     (true, "[a]{b}", "[a]{b}\ncells 5\n"),
 ];
 
-/// Texts outside the grammar, with their places.
+/// Texts with a syntax error, and its offset.
 static OUTSIDE: [(&str, u32); 9] = [
     ("", 0),
     ("2147483648", 0),
@@ -40,7 +40,7 @@ static OUTSIDE: [(&str, u32); 9] = [
 
 const REFUSAL: &str = "!term A\n";
 
-/// What printing a text came to.
+/// Prints the term of a text.
 fn print(alloc: Global, mut text: &[u8]) -> Ran {
     let mut place = None;
     let mut written = Vec::new(alloc);
@@ -52,7 +52,7 @@ fn print(alloc: Global, mut text: &[u8]) -> Ran {
     }
 }
 
-/// What printing a text and counting its cells came to.
+/// Prints the term of a text and its number of cells.
 fn share(alloc: Global, mut text: &[u8]) -> Ran {
     let mut place = None;
     let mut written = Vec::new(alloc);
@@ -64,7 +64,7 @@ fn share(alloc: Global, mut text: &[u8]) -> Ran {
     }
 }
 
-/// What printing a text came to, and counting its cells where that is asked for.
+/// Prints the term of a text and, if `counts`, its number of cells.
 fn print_or_share(alloc: Global, counts: bool, text: &str) -> Ran {
     if counts {
         share(alloc, text.as_bytes())
@@ -81,7 +81,7 @@ fn printed_and_counted(rt: HostRuntime) {
     }
 }
 
-/// Stops where a text is not refused at a place.
+/// Aborts the test unless a text is rejected at this offset.
 fn expect_outside(rt: &impl Abort, ran: &Ran, at: u32) {
     let due = Place {
         text: Source::Term,
@@ -101,8 +101,8 @@ fn outside(rt: HostRuntime) {
 
 const WHOLE: &[u8] = b"f(a,[1,-7]){b}";
 
-/// Stops where what is written for a front of the whole text does not begin with the front and go
-/// on, or the front is not refused, if it is no term.
+/// Aborts the test unless a prefix of the whole text is printed with something after it if it is a
+/// term, or is rejected otherwise.
 fn expect_front(rt: &impl Abort, ran: &Ran, front: &[u8]) {
     let written = ran.written.as_slice();
     let (finish, is_due) = if front.len() == 1 || front.len() == 11 {

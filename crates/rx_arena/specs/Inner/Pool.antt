@@ -1,43 +1,44 @@
--- What a pool of slots shows: the slots that are taken, and those that may be.
+-- The state of a pool: the slots that are taken, and those that can be.
 use Rattle.std.specs.Prelude.{◌≡◌, ℕ, ◌+◌, ◌-◌, ◌<◌, ◌≤◌, ◌^◌, min, List, take, length, get_or}
 use Rattle.std.specs.Prelude.{Option, Some, None, Bool, true, false, nat_eq}
 use Rattle.rx_arena.specs.Inner.Node.{Node, mark_of}
 use Rattle.rx_arena.specs.Inner.Held.{IsHeld}
 use Rattle.rx_arena.specs.Put.{times, filled, without}
 
+-- the state of a pool
 pub record PoolState : Type 0 where
-  -- what each slot holds that is taken
+  -- the contents of each slot that is taken
   pub cells : List (Option Node)
-  -- the slots that were given back, the next to be taken first
+  -- the slots that were freed, the next one to be taken first
   pub free : List ℕ
-  -- the slots from here on were never taken
+  -- the slots from this one on were never taken
   pub fresh : ℕ
-  -- the slots of all blocks
+  -- the number of slots of all blocks
   pub room : ℕ
   pub cap : ℕ
-  -- whether the two marks of taken cells have changed their meanings
+  -- whether the two marks of taken cells have exchanged their meanings
   pub turned : Bool
 
--- how many slots can be taken with no more memory
+-- spare_of p: the number of slots that can be taken without new memory
 abbrev pub spare_of : PoolState → ℕ
 spare_of p = min p.cap p.room - filled p.cells
 
--- what the taken slots hold, out of all that lies in the store
+-- cells_of slots free fresh: the contents of the taken slots, from those of all slots
 abbrev pub cells_of : List (Option Node) → List ℕ → ℕ → List (Option Node)
 cells_of slots free fresh = without (take fresh slots) free
 
--- whether a node is there and not marked, by whether the marks are turned
+-- is_unmarked_node turned o: there is a node, and it is not marked
 abbrev pub is_unmarked_node : Bool → Option Node → Bool
 is_unmarked_node turned None = false
 is_unmarked_node turned (Some n) = nat_eq n.mark (mark_of turned false)
 
--- whether a node is there and was given back
+-- is_given_back o: there is a node, and it was freed
 abbrev pub is_given_back : Option Node → Bool
 is_given_back None = false
 is_given_back (Some n) = nat_eq n.mark 2
 
--- the free slots, the counts and the store agree; marks tell the taken cells from those that were
--- given back
+-- IsPool: the free slots, the counts and the contents agree; marks distinguish taken cells from
+-- freed ones
 pub record IsPool (slots : List (Option Node)) (free : List ℕ) (fresh taken room cap : ℕ)
     : Type 0 where
   pub once : (s : ℕ) → times s free ≤ 1

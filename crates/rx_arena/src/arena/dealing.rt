@@ -1,4 +1,4 @@
-//! The slots are dealt out to other chains.
+//! Rehashing: slots are distributed to another number of chains.
 
 ghost use Rattle.std.specs.Prelude.{◌≡◌, ◌≢◌, ◌==◌, if◌then◌else◌, ℕ, ◌+◌, ◌%◌};
 ghost use Rattle.std.specs.Prelude.{◌<◌, ◌≤◌, ◌^◌, []};
@@ -15,11 +15,11 @@ use crate::arena::{Arena, home};
 use crate::fault::ArenaFault;
 use crate::heads::Heads;
 
-/// How many slots are looked at for how the heads of chains are spread.
+/// The number of slots that are examined to choose how the heads of chains are spread.
 const SAMPLE: u32 = 1024;
 
 impl Arena {
-    /// Keeps the first chains alone, where the others are empty.
+    /// Drops all chains except the first `count`. The dropped ones are empty.
     fn keep_chains(&mut self, count: u32)
         requires { (c : ℕ) → count ≤ c → chain_at self.old c ≡ [] }
         ensures after { self.new ≡ record self.old { chains = take count self.old.chains } }
@@ -28,7 +28,7 @@ impl Arena {
         self.heads.truncate(count);
     }
 
-    /// Moves each slot of a chain to the one of the first `count` chains that its hash names.
+    /// Moves each slot of a chain to the chain, among the first `count`, of its hash.
     fn move_chain(&mut self, from: u32, count: u32)
         requires count { (0 < count) × (count ≤ from) }
         requires from { from < length self.old.chains }
@@ -48,7 +48,7 @@ impl Arena {
         }
     }
 
-    /// Moves the slots of all chains to the first one, and keeps that one alone.
+    /// Moves the slots of all chains to the first one, and drops the others.
     fn gather(&mut self)
         requires { 0 < length self.old.chains }
         ensures one { length self.new.chains ≡ 1 }
@@ -63,7 +63,7 @@ impl Arena {
         self.keep_chains(1);
     }
 
-    /// The heads of so many empty chains, and of one more.
+    /// Returns the heads of `chains` empty chains, and of one more.
     fn empty_heads(&self, chains: u32) -> Result<Heads, ArenaFault>
         requires { chains ≤ 2 ^ 30 }
         ensures ok { IfOk result (λ h. h ≡ replicate (chains + 1) None) }
@@ -73,7 +73,7 @@ impl Arena {
         Heads::new(self.alloc, chains + 1, chains, self.heads.is_annotated())
     }
 
-    /// Puts the one chain behind `count` empty ones, whose heads these are, with one for its own.
+    /// Puts the only chain after `count` empty ones. `empty` has their heads and one for its own.
     fn put_behind(&mut self, empty: Heads, count: u32)
         requires one { length self.old.chains ≡ 1 }
         requires empty { empty ≡ replicate (count + 1) None }
@@ -87,7 +87,7 @@ impl Arena {
         self.heads.set(count, head);
     }
 
-    /// Deals the slots of all chains out to `chains` new ones, by way of a single chain.
+    /// Distributes the slots of all chains to `chains` new ones, by way of a single chain.
     fn deal_chains(&mut self, chains: u32) -> Result<(), ArenaFault>
         requires chains { (1 ≤ chains) × (chains ≤ 2 ^ 30) }
         requires some { 0 < length self.old.chains }
@@ -107,7 +107,7 @@ impl Arena {
         Ok(())
     }
 
-    /// Whether a third of the last slots below `end` have annotations.
+    /// Returns whether a third of the last slots below `end` have annotations.
     fn has_annotated(&self, end: u32) -> bool
         requires { (s : ℕ) → s < end → IsTaken self.now s }
     {
@@ -120,8 +120,8 @@ impl Arena {
         annotated > SAMPLE / 3
     }
 
-    /// Puts `count` empty chains in place of the chains, spread for cells with annotations or for
-    /// others.
+    /// Replaces the chains by `count` empty ones. Their heads are spread for cells with
+    /// annotations, or for cells without.
     fn clear_chains(&mut self, count: u32, annotated: bool) -> Result<(), ArenaFault>
         requires { count ≤ 2 ^ 30 }
         ensures ok { OnOk result (self.new ≡ record self.old { chains = replicate count [] }) }
@@ -135,7 +135,7 @@ impl Arena {
         Ok(())
     }
 
-    /// Puts each slot below `end` into the chain that its hash names.
+    /// Puts each slot below `end` into the chain of its hash.
     fn deal_slots(&mut self, end: u32, chains: u32)
         requires chains { (1 ≤ chains) × (chains ≡ length self.old.chains) }
         requires empty { (s : ℕ) → IsLoose self.old s }
@@ -154,7 +154,8 @@ impl Arena {
         }
     }
 
-    /// Deals the slots below `end`, which are those in the chains, out to `chains` new ones.
+    /// Distributes the slots below `end`, which are exactly those in chains, to `chains` new
+    /// chains.
     fn deal_out(&mut self, end: u32, chains: u32) -> Result<(), ArenaFault>
         requires chains { (1 ≤ chains) × (chains ≤ 2 ^ 30) }
         requires inside { (s : ℕ) → s < end → times_in s self.old.chains ≡ 1 }
@@ -174,7 +175,7 @@ impl Arena {
         Ok(())
     }
 
-    /// How many slots stand in chains.
+    /// Returns the number of slots in chains.
     fn linked(&self) -> u32
         ensures value { result ≡ total self.now.chains }
         ensures law { IsArena self.now }
@@ -182,8 +183,12 @@ impl Arena {
         self.linked
     }
 
-    /// Deals the slots of all chains out to `chains` new ones, by their hashes: in the order of the
-    /// slots, where each that was ever taken stands in a chain.
+    /// Distributes the slots of all chains to `chains` new ones, by their hashes. The only error is
+    /// `Memory`; the arena is unchanged then. Takes time linear in the number of slots and chains.
+    ///
+    /// If every slot that was ever taken is in a chain, slots are visited in order. Otherwise all
+    /// chains are gathered in one, which is then distributed, so that there are never more chains
+    /// than the new ones and one.
     pub fn rehash_into(&mut self, chains: u32) -> Result<(), ArenaFault>
         requires { (1 ≤ chains) × (chains ≤ 2 ^ 30) }
         ensures chains { OnOk result (length self.new.chains ≡ chains) }

@@ -1,4 +1,4 @@
-//! The marked slots of a chain stay, and the others leave it.
+//! Removal of unmarked slots from a chain.
 
 ghost use Rattle.std.specs.Prelude.{◌≡◌, ℕ, ◌+◌};
 ghost use Rattle.std.specs.Prelude.{◌<◌, []};
@@ -14,7 +14,7 @@ ghost use Rattle.rx_arena.specs.Arena.{IsArena};
 use crate::arena::Arena;
 
 impl Arena {
-    /// Moves the marked slots of a chain to the gray list, and gives back the others.
+    /// Moves the marked slots of a chain to the gray list, and frees the others.
     fn sort_out(&mut self, chain: u32)
         requires chain { chain < length self.old.chains }
         requires no_gray { self.old.gray ≡ [] }
@@ -50,7 +50,7 @@ impl Arena {
         }
     }
 
-    /// Moves the marked slots of a chain to the gray list, and the others out of it.
+    /// Moves the marked slots of a chain to the gray list, and removes the others from it.
     fn part(&mut self, chain: u32)
         requires chain { chain < length self.old.chains }
         requires no_gray { self.old.gray ≡ [] }
@@ -67,7 +67,8 @@ impl Arena {
         }
     }
 
-    /// Takes the slots of a chain that are not marked out of it. The others keep their order.
+    /// Removes the unmarked slots from a chain without freeing them, for callers that keep slots in
+    /// other chains. The others keep their order. Takes time linear in the length of the chain.
     pub fn chain_keep_marked(&mut self, chain: u32)
         requires chain { chain < length self.old.chains }
         requires no_gray { self.old.gray ≡ [] }
@@ -79,7 +80,8 @@ impl Arena {
         self.restore(chain);
     }
 
-    /// Gives back the slots of a chain that are not marked. The others keep their order.
+    /// Frees the unmarked slots of a chain, which are not protected. The others keep their order.
+    /// Takes time linear in the length of the chain.
     pub fn chain_retain_marked(&mut self, chain: u32)
         requires chain { chain < length self.old.chains }
         requires no_gray { self.old.gray ≡ [] }

@@ -1,4 +1,4 @@
-//! What cells say.
+//! Reading of cells.
 
 ghost use Rattle.std.specs.Prelude.{◌≡◌, ◌≢◌, ◌==◌, IsTrue};
 ghost use Rattle.std.specs.Prelude.{Some, None, IfSome};
@@ -10,7 +10,7 @@ use crate::faces::{ASK, first, said, second, word};
 use crate::{CellBody, Face, Slot};
 
 impl Arena {
-    /// What the cell says.
+    /// Returns the contents of a cell.
     pub fn read(&self, slot: Slot) -> CellBody
         requires { IsTaken self.now slot.0 }
         ensures { IfSome (taken_at self.now slot.0) (λ t. result ≡ t.body) }
@@ -18,7 +18,8 @@ impl Arena {
         self.pool.body(slot.0)
     }
 
-    /// The word of what the cell says. It stands beside the cell, which is not touched.
+    /// Returns the word of a slot, which has the contents of its cell if they fit. The cell is not
+    /// read.
     #[inline(always)]
     pub fn word(&self, slot: Slot) -> u64
         requires { IsTaken self.now slot.0 }
@@ -27,7 +28,8 @@ impl Arena {
         self.pool.word(slot.0)
     }
 
-    /// Whether the slot is taken, by a cell of this word.
+    /// Returns true only if the slot is taken by a cell whose word is this one. One load and one
+    /// compare decide whether a slot has a certain body.
     #[inline(always)]
     pub fn holds_word(&self, slot: Slot, word: u64) -> bool
         requires { word ≢ ask }
@@ -37,7 +39,7 @@ impl Arena {
         self.pool.holds_word(slot.0, word)
     }
 
-    /// What the cell says but for its hash, read there.
+    /// Returns the contents of a cell without the hash, read in the cell.
     #[inline(never)]
     fn face_in_cell(&self, slot: Slot) -> Face
         requires { IsTaken self.now slot.0 }
@@ -52,7 +54,7 @@ impl Arena {
         }
     }
 
-    /// The first word of the body, read in the cell.
+    /// Returns the first word of the body, read in the cell.
     #[inline(never)]
     fn first_in_cell(&self, slot: Slot) -> u64
         requires { IsTaken self.now slot.0 }
@@ -61,7 +63,7 @@ impl Arena {
         self.read(slot).a
     }
 
-    /// The second word of the body, read in the cell.
+    /// Returns the second word of the body, read in the cell.
     #[inline(never)]
     fn second_in_cell(&self, slot: Slot) -> u64
         requires { IsTaken self.now slot.0 }
@@ -70,8 +72,8 @@ impl Arena {
         self.read(slot).b
     }
 
-    /// What the cell says but for its hash: mostly from the word beside the cell, so that the cell
-    /// is not touched.
+    /// Returns the contents of a cell without the hash. They are mostly in the word of the slot, so
+    /// that the cell is not read.
     #[inline(always)]
     pub fn face(&self, slot: Slot) -> Face
         requires { IsTaken self.now slot.0 }
@@ -83,7 +85,7 @@ impl Arena {
         }
     }
 
-    /// The first word of the body, mostly from the word beside the cell.
+    /// Returns the first word of the body, mostly from the word of the slot.
     #[inline(always)]
     pub fn first(&self, slot: Slot) -> u64
         requires { IsTaken self.now slot.0 }
@@ -97,7 +99,7 @@ impl Arena {
         }
     }
 
-    /// The second word of the body, mostly from the word beside the cell.
+    /// Returns the second word of the body, mostly from the word of the slot.
     #[inline(always)]
     pub fn second(&self, slot: Slot) -> u64
         requires { IsTaken self.now slot.0 }

@@ -1,4 +1,5 @@
-//! A slot leaves its chain, and the others keep their order.
+//! Removal of one slot from its chain. It is searched for and unlinked, which is faster than taking
+//! the whole chain apart: new slots are at the front, so one that dies soon is found at once.
 
 ghost use Rattle.std.specs.Prelude.{◌≡◌, ◌<◌, ◌∷◌, ◌++◌, ℕ, List, IfNone, IfSome, length};
 ghost use Rattle.std.specs.Prelude.{slice_set};
@@ -9,7 +10,7 @@ use crate::Slot;
 use crate::arena::Arena;
 
 impl Arena {
-    /// The slot before this one in its chain; none, where the chain begins with it.
+    /// Returns the slot before this one in its chain, or `None` if it is the first.
     fn chain_before(&self, chain: u32, slot: Slot) -> Option<Slot>
         requires chain { chain < length self.now.chains }
         requires there { 0 < times slot.0 (chain_at self.now chain) }
@@ -31,7 +32,7 @@ impl Arena {
         unreachable!()
     }
 
-    /// Links a slot of a chain to what comes behind the slot behind it.
+    /// Links the slot before `slot` to the one after it.
     fn chain_skip(&mut self, chain: u32, before: Slot, slot: Slot)
         requires chain { chain < length self.old.chains }
         requires row { (front : List ℕ) × (rest : List ℕ)
@@ -47,7 +48,8 @@ impl Arena {
         self.linked -= 1;
     }
 
-    /// Takes a slot out of its chain. The others keep their order.
+    /// Removes a slot from its chain. The others keep their order. Takes time linear in the number
+    /// of slots before it.
     pub fn chain_remove(&mut self, chain: u32, slot: Slot)
         requires chain { chain < length self.old.chains }
         requires there { 0 < times slot.0 (chain_at self.old chain) }

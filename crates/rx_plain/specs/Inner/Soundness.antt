@@ -1,4 +1,4 @@
--- Every bank is sound.
+-- Every store satisfies the invariant of term stores.
 use Rattle.std.proofs.Common.{List, length, ℕ, ◌≡◌, ◌≤◌, ◌<◌, true, Option, Some, None, is_some}
 use Rattle.std.proofs.Common.{refl, ap, inl, inr, arith}
 use Rattle.std.specs.FinMap as map
@@ -17,17 +17,18 @@ use Rattle.rx_term.specs.Bank.{table_of}
 use Rattle.rx_plain.specs.State.{store_of}
 use Rattle.rx_plain.specs.declared.bank.PlainBank.{PlainBank}
 
--- what a bank's symbols stand for
+-- the signatures of a store's symbols
 abbrev pub table : PlainBank → Table
 table b = table_of (symbols_of b.names)
 
+-- a slot with a cell is one of the vector
 pub cell-within : (xs : List Slot) (t : ℕ) (x : Cell) → heap_of xs t ≡ Some x → t < length xs
 cell-within xs t x e = elim (lt_or_le t (length xs)) [
   | inl lt ↦ lt
   | inr le ↦ (let q : heap_of xs t ≡ None = ap cell_at (slice_get_past xs t le) in cc)
 ]
 
--- a bank's slots are a heap
+-- a store's slots are a heap
 pub bank-heap : (b : PlainBank)
     → IsHeap (heap_of b.slots.items) (table b) (length b.slots.items) b.whole.0
 bank-heap b = record {
@@ -37,6 +38,7 @@ bank-heap b = record {
   symbols = names-table b.names;
 }
 
+-- there are at most as many taken slots as slots
 pub taken-le : (b : PlainBank) → b.taken ≤ length b.slots.items
 unfolding content_by
 taken-le b =
@@ -45,13 +47,13 @@ taken-le b =
     let most = len-tabulate-le n (tree_of (heap_of b.slots.items) (table b) b.whole.0) in
     omega (arith, counted, most)
 
--- a reference with a cell is held
+-- a reference exists if and only if its slot has a cell
 pub cell-held : (b : PlainBank) (t : ℕ)
     → is_some (map.get (store_of b).content t) ≡ is_some (heap_of b.slots.items t)
 cell-held b = heaps.cell-held (heap_of b.slots.items) (table b) (length b.slots.items) b.whole
     (bank-heap b)
 
--- every bank is sound
+-- every store satisfies the invariant of term stores
 pub sound : (b : PlainBank) → IsSound (store_of b)
 unfolding content_by
 sound b = heap-sound (symbols_of b.names) (heap_of b.slots.items) (length b.slots.items) b.whole

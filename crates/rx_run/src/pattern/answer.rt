@@ -1,18 +1,18 @@
-//! What a run with a pattern comes to.
+//! The results of runs with a pattern, before they are written.
 
 ghost use Rattle.std.specs.Prelude.{◌≡◌, List, ℕ, Some, IfErr, IfOk, IfSome, IsSome, OnOk};
 ghost use Rattle.rx_term.specs.Tree.{Tree};
 ghost use Rattle.rx_term.specs.Store.{tree_at};
 ghost use Rattle.rx_term.specs.Walks.{AllHeld, HaveTrees};
-ghost use Rattle.rx_text.specs.Input.{IsReadable, IsSameInput, remaining_in};
+ghost use Rattle.rx_text.specs.Input.{remaining_in};
 ghost use Rattle.rx_text.specs.Verdict.{Verdict, IsVerdict};
 ghost use Rattle.rx_pattern.specs.Matching.{matching};
 ghost use Rattle.rx_pattern.specs.Filling.{filling};
 ghost use Rattle.rx_run.specs.PatternRuns.{elements};
 ghost use Rattle.rx_run.specs.Due.{done};
 ghost use Rattle.rx_run.specs.Run.{IsReadOut, RanOut, StopsUnwritten};
-ghost use Rattle.rx_run.specs.Streams.{TellsRead};
-ghost use Rattle.rx_run.specs.TermRuns.{due_of};
+ghost use Rattle.rx_run.specs.Streams.{ReportsRead};
+ghost use Rattle.rx_run.specs.TermRuns.{IsTermHeld, due_at, due_of, term_line};
 ghost use Rattle.rx_run.specs.PatternRuns.{
   IsMakeDue,
   IsMatchDue,
@@ -23,7 +23,7 @@ ghost use Rattle.rx_run.specs.PatternRuns.{
   made_due,
   match_lines,
 };
-ghost use Rattle.rx_run.specs.Inner.PatternAnswers.{IsAnswerHeld, IsPatternRead, answer_due};
+ghost use Rattle.rx_run.specs.Inner.PatternAnswers.{IsAnswerHeld, IsPatternRead, answer_due, is_yes};
 
 use crate::ending::{RunFault, Source};
 use crate::pattern::reading::elements_of;
@@ -35,25 +35,32 @@ use rx_text::Input;
 use std::alloc::Global;
 use std::io::Read;
 
-/// What is to be written where both texts are good.
+/// The result of a match.
 #[derive(Drop)]
 pub(crate) enum Answer {
     /// The pattern does not match.
     No,
-    /// It matches with these bindings, in order.
+    /// The pattern matches. The bindings are in the order of its placeholders.
     Yes(Vec<Term>),
-    /// This was made.
-    Made(Term),
 }
 
-/// Reads the input where a pattern was read, and matches the one with the other.
+/// Returns whether the pattern matches. False if an input was rejected.
+pub(crate) fn has_matched(answer: &Reading<Answer>) -> bool
+    ensures { result ≡ is_yes answer.now }
+{
+    match answer {
+        Reading::Good(Answer::Yes(_)) => true,
+        Reading::Good(Answer::No) | Reading::Refused(_) => false,
+    }
+}
+
+/// If a pattern was read, reads the input and matches the pattern with it.
 pub(crate) fn match_reading<B: TermBank, R: Read>(
     alloc: Global,
     reading: Reading<Pattern>,
     input: &mut Input<'_, R>,
     bank: &mut B,
 ) -> Result<Reading<Answer>, RunFault>
-    requires { IsReadable input.old }
     ensures due { IfOk result (λ answer. (text : List ℕ) → IsPatternRead text reading
         → IfSome (remaining_in R.remaining input.old)
         (λ bytes. IsMatchDue text bytes (answer_due (B.store bank.new) answer))) }
@@ -65,8 +72,7 @@ pub(crate) fn match_reading<B: TermBank, R: Read>(
         (remaining_in R.remaining input.new)) }
     ensures unread { (text : List ℕ) → IsPatternRead text reading → IsNoPattern text
         → input.new ≡ input.old }
-    ensures same { IsSameInput input.old input.new }
-    ensures cause { TellsRead input.new result }
+    ensures reports { ReportsRead input.old input.new result }
 {
     match reading {
         Reading::Refused(refusal) => Ok(Reading::Refused(refusal)),
@@ -74,14 +80,13 @@ pub(crate) fn match_reading<B: TermBank, R: Read>(
     }
 }
 
-/// Reads the input, and matches a pattern with it.
+/// Reads the input and matches a pattern with it.
 fn match_input<B: TermBank, R: Read>(
     alloc: Global,
     pattern: &Pattern,
     input: &mut Input<'_, R>,
     bank: &mut B,
 ) -> Result<Reading<Answer>, RunFault>
-    requires { IsReadable input.old }
     ensures due { IfOk result (λ answer. IfSome (remaining_in R.remaining input.old) (λ bytes.
         (v : Verdict) ×
         (IsVerdict bytes v × (answer_due (B.store bank.new) answer ≡ due_of
@@ -91,8 +96,7 @@ fn match_input<B: TermBank, R: Read>(
     ensures held { IfOk result (λ answer. IsAnswerHeld (B.store bank.new) answer) }
     ensures fault { IfErr result (StopsUnwritten (B.store bank.old) (B.store bank.new)) }
     ensures cap { (B.store bank.new).cap ≡ (B.store bank.old).cap }
-    ensures same { IsSameInput input.old input.new }
-    ensures cause { TellsRead input.new result }
+    ensures reports { ReportsRead input.old input.new result }
 {
     match read_term(alloc, input, bank)? {
         Reading::Refused(refusal) => Ok(Reading::Refused(refusal)),
@@ -100,7 +104,7 @@ fn match_input<B: TermBank, R: Read>(
     }
 }
 
-/// Matches a pattern with a term of the bank.
+/// Matches a pattern with a term of the store.
 fn match_term<B: TermBank>(
     alloc: Global,
     pattern: &Pattern,
@@ -123,16 +127,16 @@ fn match_term<B: TermBank>(
     }
 }
 
-/// Reads the arguments where a pattern was read, and makes a tree from them.
+/// If a pattern was read, reads the arguments and fills the pattern with them.
 pub(crate) fn make_of_reading<B: TermBank>(
     alloc: Global,
     reading: Reading<Pattern>,
     args: &[u8],
     bank: &mut B,
-) -> Result<Reading<Answer>, RunFault>
-    ensures due { IfOk result (λ answer. (text : List ℕ) → IsPatternRead text reading
-        → IsMakeDue text args.now (answer_due (B.store bank.new) answer)) }
-    ensures held { IfOk result (λ answer. IsAnswerHeld (B.store bank.new) answer) }
+) -> Result<Reading<Term>, RunFault>
+    ensures due { IfOk result (λ made. (text : List ℕ) → IsPatternRead text reading
+        → IsMakeDue text args.now (due_at term_line (B.store bank.new) made)) }
+    ensures held { IfOk result (λ made. IsTermHeld (B.store bank.new) made) }
     ensures fault { IfErr result (RanOut (B.store bank.old) (B.store bank.new)) }
     ensures cap { (B.store bank.new).cap ≡ (B.store bank.old).cap }
 {
@@ -142,16 +146,16 @@ pub(crate) fn make_of_reading<B: TermBank>(
     }
 }
 
-/// Reads the arguments, and makes a tree from a pattern and them.
+/// Reads the arguments and fills a pattern with them.
 fn make_of_text<B: TermBank>(
     alloc: Global,
     pattern: &Pattern,
     args: &[u8],
     bank: &mut B,
-) -> Result<Reading<Answer>, RunFault>
-    ensures due { IfOk result (λ answer. (v : Verdict) × (IsVerdict args.now v
-        × (answer_due (B.store bank.new) answer ≡ due_of_args pattern.now v))) }
-    ensures held { IfOk result (λ answer. IsAnswerHeld (B.store bank.new) answer) }
+) -> Result<Reading<Term>, RunFault>
+    ensures due { IfOk result (λ made. (v : Verdict) × (IsVerdict args.now v
+        × (due_at term_line (B.store bank.new) made ≡ due_of_args pattern.now v))) }
+    ensures held { IfOk result (λ made. IsTermHeld (B.store bank.new) made) }
     ensures fault { IfErr result (RanOut (B.store bank.old) (B.store bank.new)) }
     ensures cap { (B.store bank.new).cap ≡ (B.store bank.old).cap }
 {
@@ -161,17 +165,17 @@ fn make_of_text<B: TermBank>(
     }
 }
 
-/// Makes a tree from a pattern and the elements of a term of the bank.
+/// Fills a pattern with the elements of a list term of the store.
 fn make_of_term<B: TermBank>(
     alloc: Global,
     pattern: &Pattern,
     t: Term,
     bank: &mut B,
-) -> Result<Reading<Answer>, RunFault>
+) -> Result<Reading<Term>, RunFault>
     requires { IsSome (tree_at (B.store bank.old) t) }
-    ensures due { IfOk result (λ answer. (u : Tree) → tree_at (B.store bank.old) t ≡ Some u →
-        answer_due (B.store bank.new) answer ≡ filled_due pattern.now (elements u)) }
-    ensures held { IfOk result (λ answer. IsAnswerHeld (B.store bank.new) answer) }
+    ensures due { IfOk result (λ made. (u : Tree) → tree_at (B.store bank.old) t ≡ Some u →
+        due_at term_line (B.store bank.new) made ≡ filled_due pattern.now (elements u)) }
+    ensures held { IfOk result (λ made. IsTermHeld (B.store bank.new) made) }
     ensures fault { IfErr result (RanOut (B.store bank.old) (B.store bank.new)) }
     ensures cap { (B.store bank.new).cap ≡ (B.store bank.old).cap }
 {
@@ -182,22 +186,22 @@ fn make_of_term<B: TermBank>(
     }
 }
 
-/// Makes a tree from a pattern and terms of the bank.
+/// Fills a pattern with terms of the store.
 fn make_of_elements<B: TermBank>(
     pattern: &Pattern,
     args: &[Term],
     bank: &mut B,
-) -> Result<Reading<Answer>, RunFault>
+) -> Result<Reading<Term>, RunFault>
     requires { AllHeld (B.store bank.old) args.now }
     ensures due { IfOk result
-        (λ answer. (ts : List Tree) → HaveTrees (B.store bank.old) args.now ts →
-        answer_due (B.store bank.new) answer ≡ made_due (filling pattern.now ts)) }
-    ensures held { IfOk result (λ answer. IsAnswerHeld (B.store bank.new) answer) }
+        (λ made. (ts : List Tree) → HaveTrees (B.store bank.old) args.now ts →
+        due_at term_line (B.store bank.new) made ≡ made_due (filling pattern.now ts)) }
+    ensures held { IfOk result (λ made. IsTermHeld (B.store bank.new) made) }
     ensures fault { IfErr result (RanOut (B.store bank.old) (B.store bank.new)) }
     ensures cap { (B.store bank.new).cap ≡ (B.store bank.old).cap }
 {
     match pattern.make(bank, args) {
-        Ok(t) => Ok(Reading::Good(Answer::Made(t))),
+        Ok(t) => Ok(Reading::Good(t)),
         Err(MakeFault::Count) => Ok(Reading::refused(Source::Args, Reason::Count)),
         Err(MakeFault::Kind { at: _ }) => Ok(Reading::refused(Source::Args, Reason::Kind)),
         Err(MakeFault::Memory) => Err(RunFault::Memory { lines: 0 }),

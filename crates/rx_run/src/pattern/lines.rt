@@ -1,12 +1,11 @@
-//! The lines of a run with a pattern.
+//! Writes the output of a run with a pattern.
 
 ghost use Rattle.std.specs.Prelude.{◌++◌, IfErr, OnOk, codes, flat_map};
 ghost use Rattle.rx_term.specs.Walks.{AllHeld};
-ghost use Rattle.rx_text.specs.Output.{IsSameOutput, IsWritable, Writes, contents_of};
-ghost use Rattle.rx_run.specs.Inner.PatternAnswers.{HoldsAnswer, IsAnswerHeld, answer_due};
-ghost use Rattle.rx_run.specs.Inner.PatternAnswers.{answer_lines};
+ghost use Rattle.rx_text.specs.Output.{Writes, contents_of};
+ghost use Rattle.rx_run.specs.Inner.PatternAnswers.{IsAnswerHeld, answer_due};
 ghost use Rattle.rx_run.specs.Run.{Stops, StopsWriting};
-ghost use Rattle.rx_run.specs.Streams.{TellsWrite};
+ghost use Rattle.rx_run.specs.Streams.{ReportsWrite};
 ghost use Rattle.rx_run.specs.TermRuns.{line_at};
 
 use crate::ending::RunFault;
@@ -18,7 +17,7 @@ use rx_text::Output;
 use std::alloc::Global;
 use std::io::Write;
 
-/// Writes what is due for what the texts came to.
+/// Writes the lines of an answer, or the error line of a rejected input.
 pub(crate) fn write_answer<B: TermBank, W: Write>(
     alloc: Global,
     bank: &B,
@@ -26,48 +25,22 @@ pub(crate) fn write_answer<B: TermBank, W: Write>(
     out: &mut Output<'_, W>,
 ) -> Result<(), RunFault>
     requires held { IsAnswerHeld (B.store bank.now) answer.now }
-    requires open { IsWritable out.old }
     ensures ok { OnOk result (Writes W.contents out.old out.new
         (answer_due (B.store bank.now) answer.now).text) }
     ensures err { IfErr result (λ fault. Stops fault (answer_due (B.store bank.now) answer.now).text
         (contents_of W.contents out.old) (contents_of W.contents out.new)) }
     ensures writing { IfErr result StopsWriting }
-    ensures same { IsSameOutput out.old out.new }
-    ensures cause { TellsWrite out.new result }
+    ensures reports { ReportsWrite out.old out.new result }
 {
     match answer {
         Reading::Refused(refusal) => write_refusal_to(*refusal, out)?,
-        Reading::Good(found) => write_answer_lines(alloc, bank, found, out)?,
+        Reading::Good(Answer::No) => out.put(b"no\n")?,
+        Reading::Good(Answer::Yes(bindings)) => write_bindings(alloc, bank, bindings, out)?,
     }
     Ok(())
 }
 
-/// Writes the lines of an answer.
-fn write_answer_lines<B: TermBank, W: Write>(
-    alloc: Global,
-    bank: &B,
-    answer: &Answer,
-    out: &mut Output<'_, W>,
-) -> Result<(), RunFault>
-    requires held { HoldsAnswer (B.store bank.now) answer.now }
-    requires open { IsWritable out.old }
-    ensures ok { OnOk result (Writes W.contents out.old out.new
-        (answer_lines (B.store bank.now) answer.now)) }
-    ensures err { IfErr result (λ fault. Stops fault (answer_lines (B.store bank.now) answer.now)
-        (contents_of W.contents out.old) (contents_of W.contents out.new)) }
-    ensures writing { IfErr result StopsWriting }
-    ensures same { IsSameOutput out.old out.new }
-    ensures cause { TellsWrite out.new result }
-{
-    match answer {
-        Answer::No => out.put(b"no\n")?,
-        Answer::Yes(bindings) => write_bindings(alloc, bank, bindings, out)?,
-        Answer::Made(t) => write_line_to(alloc, bank, *t, 0, out)?,
-    }
-    Ok(())
-}
-
-/// Writes that the pattern matches, and a line for each binding.
+/// Writes `yes` and a line for each binding.
 fn write_bindings<B: TermBank, W: Write>(
     alloc: Global,
     bank: &B,
@@ -75,15 +48,13 @@ fn write_bindings<B: TermBank, W: Write>(
     out: &mut Output<'_, W>,
 ) -> Result<(), RunFault>
     requires held { AllHeld (B.store bank.now) bindings.now }
-    requires open { IsWritable out.old }
     ensures ok { OnOk result (Writes W.contents out.old out.new
         (codes "yes\n" ++ flat_map (line_at (B.store bank.now)) bindings.now)) }
     ensures err { IfErr result
         (λ fault. Stops fault (codes "yes\n" ++ flat_map (line_at (B.store bank.now)) bindings.now)
         (contents_of W.contents out.old) (contents_of W.contents out.new)) }
     ensures writing { IfErr result StopsWriting }
-    ensures same { IsSameOutput out.old out.new }
-    ensures cause { TellsWrite out.new result }
+    ensures reports { ReportsWrite out.old out.new result }
 {
     out.put(b"yes\n")?;
     for i in 0..bindings.len() {

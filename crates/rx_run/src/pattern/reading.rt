@@ -1,4 +1,4 @@
-//! The text of a pattern, and the elements of a list of arguments.
+//! Reads patterns and lists of arguments.
 
 ghost use Rattle.std.specs.Prelude.{◌≡◌, option_map, Some, IfErr, IfOk, IsSome};
 ghost use Rattle.std.specs.Option.{option_and_then};
@@ -16,7 +16,7 @@ use rx_pattern::{Pattern, PatternFault};
 use rx_term::{Kind, Term, TermBank};
 use std::alloc::{AllocError, Global};
 
-/// References of the elements of a list without annotations; `None` of any other tree.
+/// Returns the elements of a list without annotations, or `None` for any other term.
 pub(crate) fn elements_of<B: TermBank>(
     alloc: Global,
     bank: &B,
@@ -36,7 +36,7 @@ pub(crate) fn elements_of<B: TermBank>(
     }
 }
 
-/// References of the items of a list without annotations.
+/// Returns the elements of a list without annotations.
 fn items_of<B: TermBank>(alloc: Global, bank: &B, list: Term) -> Result<Vec<Term>, AllocError>
     requires { (ts : Trees) × (tree_at (B.store bank.now) list ≡ Some (list_of ts)) }
     ensures { IfOk result
@@ -52,7 +52,7 @@ fn items_of<B: TermBank>(alloc: Global, bank: &B, list: Term) -> Result<Vec<Term
     Ok(found)
 }
 
-/// Reads the text of a pattern, in a bank of its own.
+/// Reads the text of a pattern in a store that is dropped afterwards.
 pub(crate) fn read_pattern(alloc: Global, text: &[u8]) -> Result<Reading<Pattern>, RunFault>
     ensures read { IfOk result (λ reading. IsPatternRead text.now reading) }
     ensures fault { IfErr result StopsAtOnce }
@@ -63,19 +63,20 @@ pub(crate) fn read_pattern(alloc: Global, text: &[u8]) -> Result<Reading<Pattern
     }
 }
 
-/// The same over a bank that is let go.
+/// Reads the text of a pattern in an empty store, which it drops.
 fn read_pattern_over<B: TermBank + Drop>(
     alloc: Global,
     text: &[u8],
     mut bank: B,
 ) -> Result<Reading<Pattern>, RunFault>
+    requires limit { (B.store bank).cap ≡ 1073741824 }
     ensures read { IfOk result (λ reading. IsPatternRead text.now reading) }
     ensures fault { IfErr result StopsAtOnce }
 {
     read_pattern_in(alloc, text, &mut bank)
 }
 
-/// The same over a bank, to which it brings terms and nothing else.
+/// Reads the text of a pattern in a store of the caller. Only adds terms to the store.
 pub(crate) fn read_pattern_in<B: TermBank>(
     alloc: Global,
     text: &[u8],
@@ -91,7 +92,7 @@ pub(crate) fn read_pattern_in<B: TermBank>(
     }
 }
 
-/// The pattern that a term of the bank is.
+/// Converts a term of the store to a pattern. A term that is not a pattern is rejected.
 fn pattern_of<B: TermBank>(alloc: Global, bank: &B, t: Term) -> Result<Reading<Pattern>, RunFault>
     requires { IsSome (tree_at (B.store bank.now) t) }
     ensures read { IfOk result

@@ -1,12 +1,12 @@
-//! Reading the text of one term.
+//! Reads the text of one term.
 
 ghost use Rattle.std.specs.Prelude.{◌≡◌, ◌<◌, ◌≤◌, IfOk, IfErr, OnOk};
 ghost use Rattle.rx_term.specs.Steps.{Grows};
 ghost use Rattle.rx_text.specs.Verdict.{Verdict, IsVerdict};
-ghost use Rattle.rx_text.specs.Input.{IsReadable, IsSameInput, remaining_in};
+ghost use Rattle.rx_text.specs.Input.{remaining_in};
 ghost use Rattle.rx_shared.specs.State.{IsEmptyStore, store_of};
 ghost use Rattle.rx_run.specs.Run.{IsReadOut, RanOut, StopsUnwritten};
-ghost use Rattle.rx_run.specs.Streams.{TellsRead};
+ghost use Rattle.rx_run.specs.Streams.{ReportsRead};
 ghost use Rattle.rx_run.specs.TermRuns.{IsGiven, IsReadingOf};
 
 use crate::ending::{RunFault, Source};
@@ -18,30 +18,28 @@ use rx_text::{Input, TextFault};
 use std::alloc::Global;
 use std::io::Read;
 
-/// The most cells that a bank may have.
+/// The greatest capacity of a term store, in cells.
 pub const MOST_CELLS: u32 = 1_073_741_824;
 
-/// Reads the text of a term into a bank.
+/// Reads the text of a term into a store.
 pub(crate) fn read_term<B: TermBank, R: Read>(
     alloc: Global,
     input: &mut Input<'_, R>,
     bank: &mut B,
 ) -> Result<Reading<Term>, RunFault>
-    requires { IsReadable input.old }
     ensures read { IfOk result
         (λ reading. IsGiven (remaining_in R.remaining input.old) (B.store bank.new) reading) }
     ensures grows { Grows (B.store bank.old) (B.store bank.new) }
     ensures out { OnOk result
         (IsReadOut (remaining_in R.remaining input.old) (remaining_in R.remaining input.new)) }
     ensures fault { IfErr result (StopsUnwritten (B.store bank.old) (B.store bank.new)) }
-    ensures same { IsSameInput input.old input.new }
-    ensures cause { TellsRead input.new result }
+    ensures reports { ReportsRead input.old input.new result }
 {
     let text = read_all_from(alloc, input)?;
     parse(alloc, Source::Term, &text, bank)
 }
 
-/// An empty bank of at most so many cells; the error is want of memory.
+/// Creates an empty store with this capacity. The only error is `Memory`.
 pub fn empty_bank(alloc: Global, cells: u32) -> Result<SharedBank, RunFault>
     requires { (0 < cells) × (cells ≤ 1073741824) }
     ensures empty { IfOk result (λ bank. IsEmptyStore (store_of bank) cells) }
@@ -53,7 +51,7 @@ pub fn empty_bank(alloc: Global, cells: u32) -> Result<SharedBank, RunFault>
     }
 }
 
-/// The verdict on a text, with its term in the bank.
+/// Parses a text into a store. `source` is the input that an error names.
 pub fn parse<B: TermBank>(
     alloc: Global,
     source: Source,

@@ -1,4 +1,7 @@
-//! Terms are made, each once.
+//! Making terms, each once.
+//!
+//! The fast path compares one word and passes two others. List nodes and applications have slow
+//! paths of their own, and a body is put together only in functions that are not inlined.
 
 ghost use Rattle.std.specs.Prelude.{◌≡◌, ◌+◌, ◌*◌, ◌<◌, ℕ, false, length};
 ghost use Rattle.rx_shared.specs.Tidy.{heap_of};
@@ -11,11 +14,12 @@ use rx_arena::{ArenaFault, CellBody, Slot};
 use rx_sweep::kinds::{APPLICATION, LIST};
 use rx_term::{BankFault, Term};
 
-/// The first word of the word that says to ask the cell, and the greatest that a word has.
+/// The largest first word that a packed word can have; with it a packed word can mean "read the
+/// cell".
 const LARGEST: u64 = u32::MAX as u64;
 
-/// Whether a body of this kind without annotations, with this first word and a small second one,
-/// may have the word that says to ask the cell.
+/// Returns whether a body of this kind without annotations, with this first word and a small second
+/// one, can have the word that means "read the cell".
 #[inline(always)]
 fn may_ask(kind: u8, a: u64) -> bool
     ensures { result ≡ false → (b : ℕ) → kind < 4 → b < 1073741824 → (a < 4294967296)
@@ -39,8 +43,8 @@ impl SharedBank {
     ghost use Rattle.rx_shared.specs.State.{store_of, tree_of_body};
     ghost use Rattle.rx_arena.specs.Faces.{word_of};
 
-    /// Doubles the chains where there are more cells than chains; without memory for that it leaves
-    /// them.
+    /// Doubles the chains if there are more cells than chains. If allocation fails, they stay as
+    /// they are.
     #[inline(never)]
     fn widen(&mut self)
         ensures { store_of self.new ≡ store_of self.old }
@@ -52,7 +56,7 @@ impl SharedBank {
         }
     }
 
-    /// The same, where there are more cells than chains.
+    /// Doubles the chains if there are more cells than chains; the test is inlined.
     #[inline(always)]
     fn widen_where_full(&mut self)
         ensures { store_of self.new ≡ store_of self.old }
@@ -62,7 +66,7 @@ impl SharedBank {
         }
     }
 
-    /// Takes a slot for a body of this word, which no slot holds.
+    /// Takes a slot for a body of this word, which no slot has.
     #[inline(always)]
     fn add(&mut self, chain: u32, body: CellBody, word: u64) -> Result<Term, BankFault>
         requires chain { chain ≡ body.hash % length self.old.arena.chains }
@@ -84,7 +88,7 @@ impl SharedBank {
         }
     }
 
-    /// The chain that a hash names: its low bits, as the number of chains is a power of two.
+    /// Returns the chain of a hash: its low bits, as the number of chains is a power of two.
     #[inline(always)]
     fn home(&self, hash: u64) -> u32
         ensures { result ≡ hash % length self.now.arena.chains }
@@ -92,8 +96,8 @@ impl SharedBank {
         (hash & ((1u64 << self.bits) - 1)) as u32
     }
 
-    /// The reference of a body of this word, searched along its chain unless it is known that no
-    /// slot holds it, as the hints told 0.
+    /// Returns the reference of a body of this word. It is searched for along its chain, unless the
+    /// hints returned 0 (`told`): then no slot has it.
     #[inline(always)]
     fn make_by_hash(&mut self, body: CellBody, word: u64, told: u32) -> Result<Term, BankFault>
         requires word { word ≡ word_of body }
@@ -116,7 +120,7 @@ impl SharedBank {
         Ok(made)
     }
 
-    /// The same for a list node of these words.
+    /// Returns the reference of a list node of these words, found or made by its hash.
     #[inline(never)]
     fn make_list(&mut self, a: u64, b: u64, word: u64, told: u32) -> Result<Term, BankFault>
         requires word { word ≡ word_of (body_of 2 a b None) }
@@ -130,7 +134,7 @@ impl SharedBank {
         self.make_by_hash(body(LIST, a, b, None), word, told)
     }
 
-    /// The same for an application of these words.
+    /// Returns the reference of an application of these words, found or made by its hash.
     #[inline(never)]
     fn make_application(&mut self, a: u64, b: u64, word: u64, told: u32) -> Result<Term, BankFault>
         requires word { word ≡ word_of (body_of 3 a b None) }
@@ -144,7 +148,7 @@ impl SharedBank {
         self.make_by_hash(body(APPLICATION, a, b, None), word, told)
     }
 
-    /// The same for any body of these words.
+    /// Returns the reference of any body of these words, found or made by its hash.
     #[inline(never)]
     fn make_any(
         &mut self,
@@ -165,7 +169,7 @@ impl SharedBank {
         self.make_by_hash(whole, word(whole), told)
     }
 
-    /// The same. A body is put together behind a call alone, and in one where its kind is known.
+    /// Returns the reference of a body of these words, by an outlined function for its kind.
     #[inline(always)]
     fn make_slowly(
         &mut self,
@@ -198,7 +202,8 @@ impl SharedBank {
         }
     }
 
-    /// The reference of a body of this word. Most are where the hints say, or new as the hints say.
+    /// Returns the reference of a body of this word. Most are where the hints lead, or new as the
+    /// hints show.
     #[inline(always)]
     fn make_with(&mut self, body: CellBody, word: u64) -> Result<Term, BankFault>
         requires word { word ≡ word_of body }
@@ -214,7 +219,7 @@ impl SharedBank {
         self.make_slowly(body.kind, body.a, body.b, body.anns, word, told)
     }
 
-    /// The reference of a body.
+    /// Returns the reference of a body.
     #[inline(always)]
     pub(super) fn make(&mut self, body: CellBody) -> Result<Term, BankFault>
         requires written { IsWritten body }
@@ -225,9 +230,10 @@ impl SharedBank {
         self.make_with(body, word(body))
     }
 
-    /// The reference of a body of one of these kinds without annotations, whose second word is the
-    /// slot of a held reference: its word needs no look at that, nor does it say to ask the cell
-    /// where the first word is small. Where the hints tell of no slot, none holds the word.
+    /// Returns the reference of a body of kind below 4 without annotations, whose second word is
+    /// the slot of a term. That slot is below 2^30, so the word needs no test of it; and if the
+    /// first word is small, the word cannot mean "read the cell". If the hints have no slot, no
+    /// cell has this body.
     #[inline(always)]
     pub(super) fn make_bare(&mut self, kind: u8, a: u64, b: Term) -> Result<Term, BankFault>
         requires kind { kind < 4 }

@@ -1,4 +1,4 @@
--- What is left to be written, as text.
+-- The text that remains to be written.
 use Rattle.std.specs.Prelude.{◌≡◌, ℕ, ◌+◌, ◌<◌, List, [], ◌∷◌, ◌++◌, Option, Some, None, IsSome}
 use Rattle.std.specs.List.{AllByRecursion}
 use Rattle.std.specs.Fmt.{signed_decimal}
@@ -10,16 +10,16 @@ use Rattle.rx_text.specs.Canon.{canon, canon_all, canon_others, enclosed, name_t
 use Rattle.rx_text.specs.declared.writer.Job.{Job}
 use Rattle.rx_text.specs.declared.writer.Job.TheVariants as job
 
--- the annotations of a tree in braces, where it has any
+-- notes_text anns: the annotations in braces, if there are some
 abbrev pub notes_text : Trees → List ℕ
 notes_text anns = enclosed 123 anns (canon_all anns) 125 []
 
--- what a reference's tree gives; x, where it has none
+-- seen x of found: `of` a tree, or `x` if there is none
 abbrev pub seen : {X : Type 0} → X → (Tree → X) → Option Tree → X
 seen x of None = x
 seen x of (Some t) = of t
 
--- a tree without its annotations
+-- body_text t: the printed form of a tree without its annotations
 abbrev pub body_text : Tree → List ℕ
 body_text (Int z anns) = signed_decimal z
 body_text (Appl name quoted args anns) = name_text name quoted
@@ -27,7 +27,7 @@ body_text (Appl name quoted args anns) = name_text name quoted
 body_text (Items items anns) = 91 ∷ canon_all items ++ 93 ∷ []
 body_text (Hole inner anns) = 60 ∷ canon inner ++ 62 ∷ []
 
--- the text of a job
+-- job_text w j: the text of a job
 abbrev pub job_text : Store → Job → List ℕ
 job_text w (job.Byte b) = b ∷ []
 job_text w (job.Tree t) = seen [] canon (tree_at w t)
@@ -36,7 +36,7 @@ job_text w (job.Items t) = seen [] (λ u. canon_all (items_of u)) (tree_at w t)
 job_text w (job.Others t) = seen [] (λ u. canon_others (items_of u)) (tree_at w t)
 
 abbrev mutual
-  -- more than its parts together
+  -- size t, sizes ts: a measure that is greater than that of all parts together
   pub size : Tree → ℕ
   size (Int z anns) = 3 + sizes anns
   size (Appl name quoted args anns) = 4 + sizes args + sizes anns
@@ -47,14 +47,14 @@ abbrev mutual
   sizes none = 1
   sizes (more t ts) = 1 + size t + sizes ts
 
--- the same without annotations
+-- body_size t: the measure of a tree without its annotations
 abbrev pub body_size : Tree → ℕ
 body_size (Int z anns) = 1
 body_size (Appl name quoted args anns) = 2 + sizes args
 body_size (Items items anns) = 2 + sizes items
 body_size (Hole inner anns) = 2 + size inner
 
--- how much there is to do
+-- job_size w j: the measure of a job
 abbrev pub job_size : Store → Job → ℕ
 job_size w (job.Byte b) = 1
 job_size w (job.Tree t) = seen 1 size (tree_at w t)
@@ -62,12 +62,12 @@ job_size w (job.Notes t) = seen 1 (λ u. 2 + sizes (annotations u)) (tree_at w t
 job_size w (job.Items t) = seen 1 (λ u. sizes (items_of u)) (tree_at w t)
 job_size w (job.Others t) = seen 1 (λ u. sizes (items_of u)) (tree_at w t)
 
--- the tree is a list
+-- IsList found: the tree is a list
 abbrev pub IsList : Option Tree → Type 0
 IsList (Some (Items items anns)) = Unit {0}
 IsList o = ⊥
 
--- the reference of a job has such a tree
+-- IsJob w j: the reference of a job has a tree that suits the job
 abbrev pub IsJob : Store → Job → Type 0
 IsJob w (job.Byte b) = Unit {0}
 IsJob w (job.Tree t) = IsSome (tree_at w t)
@@ -75,16 +75,17 @@ IsJob w (job.Notes t) = IsSome (tree_at w t)
 IsJob w (job.Items t) = IsList (tree_at w t)
 IsJob w (job.Others t) = IsList (tree_at w t)
 
--- the text of jobs, of which the last is done first
+-- jobs_text w js: the text of a stack of jobs; the last job is done first
 abbrev pub jobs_text : Store → List Job → List ℕ
 jobs_text w [] = []
 jobs_text w (j ∷ js) = jobs_text w js ++ job_text w j
 
+-- jobs_size w js: the sum of the measures of some jobs
 abbrev pub jobs_size : Store → List Job → ℕ
 jobs_size w [] = 0
 jobs_size w (j ∷ js) = job_size w j + jobs_size w js
 
--- the jobs that were added are the text
+-- Adds w whole room before after: jobs were pushed whose text is `whole`
 pub record Adds (w : Store) (whole : List ℕ) (room : ℕ) (before after : List Job) : Type 0 where
   pub added : List Job
   pub grown : after ≡ before ++ added
@@ -92,7 +93,8 @@ pub record Adds (w : Store) (whole : List ℕ) (room : ℕ) (before after : List
   pub jobs : AllByRecursion (IsJob w) added
   pub less : jobs_size w added < room
 
--- a front of the text was written, and the jobs that were added are the rest of it
+-- Leaves w whole room old new before after: a prefix of `whole` was written, and jobs were pushed
+-- for the rest
 pub record Leaves (w : Store) (whole : List ℕ) (room : ℕ) (old new : Option (List ℕ))
     (before after : List Job) : Type 0 where
   pub front : List ℕ

@@ -1,4 +1,4 @@
-//! What may stand at the place of a fault.
+//! The expected tokens at the offset of a syntax error.
 
 ghost use Rattle.std.specs.Prelude.{◌≡◌, ◌≤◌, ◌<◌, ◌↔◌, ◌∷◌, ℕ, true, List, Contains, IfOk};
 ghost use Rattle.std.specs.Prelude.{IsErrOf, is_some, length, reverse};
@@ -17,7 +17,7 @@ use crate::reading::LONGEST;
 use crate::token_kind::TokenKind;
 use std::alloc::{AllocError, Global};
 
-/// Whether a term may begin with a token of this kind.
+/// Returns whether a term can start with a token of this kind.
 fn begins_term(kind: TokenKind) -> bool
     ensures { (fs : List machine.Frame) → result ≡ is_taken (start fs) kind }
 {
@@ -31,7 +31,7 @@ fn begins_term(kind: TokenKind) -> bool
     )
 }
 
-/// Whether this is the mark that closes what is open.
+/// Returns whether this mark closes the open group.
 fn closes(opening: Opening, kind: TokenKind) -> bool
     ensures { (bytes : List ℕ) (n : ℕ) (made : List Tree) (fs : List machine.Frame)
         → result ≡ is_taken (close (frame_of bytes opening n made) fs) kind }
@@ -44,7 +44,7 @@ fn closes(opening: Opening, kind: TokenKind) -> bool
     }
 }
 
-/// Whether a token of this kind may stand behind the mark that opened something.
+/// Returns whether a token of this kind can follow the mark that opens this group.
 fn is_first(opening: Opening, kind: TokenKind) -> bool
     ensures { (bytes : List ℕ) (n : ℕ) (made : List Tree) (fs : List machine.Frame)
         → result ≡ is_taken (first (frame_of bytes opening n made) fs) kind }
@@ -55,7 +55,7 @@ fn is_first(opening: Opening, kind: TokenKind) -> bool
     }
 }
 
-/// Whether a token of this kind may stand behind a whole item of what is open.
+/// Returns whether a token of this kind can follow a complete item of this group.
 fn is_after_item(opening: Opening, kind: TokenKind) -> bool
     ensures { (bytes : List ℕ) (u : Tree) (n : ℕ) (made : List Tree) (fs : List machine.Frame)
         → result ≡ is_taken (whole u (frame_of bytes opening n made ∷ fs)) kind }
@@ -70,7 +70,7 @@ fn is_after_item(opening: Opening, kind: TokenKind) -> bool
 }
 
 impl<'a> Reader<'a> {
-    /// Whether a token of this kind may stand behind a term with its annotations.
+    /// Returns whether a token of this kind can follow a term with its annotations.
     fn is_after_whole(&self, kind: TokenKind) -> bool
         ensures { (u : Tree) (made : List Tree) → result ≡ is_taken
             (whole u (frames_of self.now.bytes.now (reverse self.now.frames.items) made)) kind }
@@ -81,7 +81,7 @@ impl<'a> Reader<'a> {
         }
     }
 
-    /// Whether a token of this kind may stand here.
+    /// Returns whether the parser accepts a token of this kind in this state.
     fn is_expected(&self, due: Due, kind: TokenKind) -> bool
         ensures { (made : List Tree) → result ≡ is_taken (step (due_of self.now.bytes.now due made)
             (frames_of self.now.bytes.now (reverse self.now.frames.items) (owned due made))) kind }
@@ -102,7 +102,7 @@ impl<'a> Reader<'a> {
         }
     }
 
-    /// The kinds of tokens that may stand here.
+    /// Returns the kinds of tokens that the parser accepts in this state.
     fn expected_kinds(&self, alloc: Global, due: Due) -> Result<Vec<TokenKind>, AllocError>
         ensures { (made : List Tree) → IfOk result
             (λ kinds. (k : TokenKind) → Contains kinds.items k
@@ -118,7 +118,7 @@ impl<'a> Reader<'a> {
         Ok(kinds)
     }
 
-    /// Whether this token may stand here.
+    /// Returns whether the parser accepts this token in this state.
     fn may_take(&self, due: Due, token: LexemeKind) -> bool
         ensures { (made : List Tree) → result ≡ is_some
             (step (due_of self.now.bytes.now due made) (frames_of self.now.bytes.now
@@ -131,7 +131,7 @@ impl<'a> Reader<'a> {
     }
 }
 
-/// The reader behind the tokens before the fault's place, and what is due there.
+/// Reads the tokens before the syntax error. Returns the parser and its state at that offset.
 fn read_to_fault(alloc: Global, bytes: &[u8]) -> Result<(Due, Reader<'_>), AllocError>
     requires { length bytes.now ≤ longest }
     ensures same { IfOk result (λ at. at.1.bytes.now ≡ bytes.now) }
@@ -160,8 +160,10 @@ fn read_to_fault(alloc: Global, bytes: &[u8]) -> Result<(Due, Reader<'_>), Alloc
     }
 }
 
-/// What may stand at the place of the fault of a text that is outside the grammar: each kind of
-/// tokens that some text has there, behind the tokens before it.
+/// Returns the expected tokens of a text with a syntax error: each kind of token that some valid
+/// text has at the offset of the error, after the same tokens.
+///
+/// Returns `Long` if the text has more than [`LONGEST`](crate::LONGEST) bytes.
 pub fn expected_at_fault(alloc: Global, bytes: &[u8]) -> Result<Vec<TokenKind>, TextFault>
     ensures expected { IfOk result (λ kinds. AreExpected bytes.now kinds.items) }
     ensures long { IsErrOf result TextFault.Long ↔ (longest < length bytes.now) }

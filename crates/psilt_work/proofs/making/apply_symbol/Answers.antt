@@ -1,7 +1,7 @@
 use Rattle.std.proofs.Common.{◌≡◌, Some, ap, is_some}
 use Rattle.rx_term.specs.Name.{Signature}
 use Rattle.rx_term.specs.Store.{tree_at, signature_of, applied}
-use Rattle.rx_term.proofs.StoreLemmas.{some-value}
+use Rattle.rx_term.proofs.StoreLemmas.{some-value, Grows-trans, Grows-made}
 use Rattle.psilt_work.specs.Banks.{store_of}
 use Rattle.psilt_work.specs.Answers.{IsApplication}
 use Rattle.psilt_work.proofs.AnswerLemmas.{appl_is, made_for}
@@ -20,3 +20,6 @@ returns-clause-made c =
     made_for w (store_of c.appl.new.self) (applied (signature_of w s) (tree_at w t)) Signature (λ g. signature_of v s ≡ Some g) (λ g tree.
     IsApplication v g.name g.quoted c.args.args.now tree) c.appl.result c.appl.ensures.made
     (λ g e. appl_is v w s t c.args.args.now g e c.in_ok-list.ensures.grows c.in_ok-list.ensures.made (c.requires.arity g e))
+
+pub returns-clause-grows : goal.returns-clause-grows
+returns-clause-grows c = Grows-trans c.list.ensures.grows (Grows-made (store_of c.list.new.bank) (store_of c.appl.new.self) _ c.appl.result c.appl.ensures.made)

@@ -6,6 +6,7 @@ use Rattle.rx_term.proofs.WalkLemmas.{next, is_longer}
 use Rattle.psilt_work.specs.Banks.{store_of}
 use Rattle.psilt_work.specs.Answers.{term_of, terms_of}
 use Rattle.psilt_work.proofs.AnswerLemmas.{held_at, one_more}
+use Rattle.psilt_work.proofs.BankLemmas.{same_trans}
 use Rattle.psilt_work.proofs.making.list.Goals as goal
 
 pub cons-requires : goal.cons-requires
@@ -23,8 +24,8 @@ loop-left-preserved c =
     record {
       within = omega arith;
       grows = Grows-trans c.loop-left.invariant.grows (Grows-Makes c.in_ok-list-2.ensures.made);
-      same = c.in_ok-list-2.ensures.same ∙ c.loop-left.invariant.same;
-      known = c.in_ok-list-2.ensures.known ∙ c.loop-left.invariant.known;
+      beside = same_trans c.args.bank.now c.loop-left.bank c.cons.new.self c.loop-left.invariant.beside c.in_ok-list-2.ensures.beside;
+      named = c.in_ok-list-2.ensures.made.beside.symbols ∙ c.loop-left.invariant.named;
       lists = (
         more n.0 n.1.0,
         subst (λ ns. HaveTrees old (terms_of ns) (to_list (more n.0 n.1.0))) (sym (one_more items c.loop-left.left 0 (omega arith) (omega arith))) n.1.3,

@@ -2,7 +2,7 @@ use Rattle.std.proofs.Common.{[], ◌∷◌, ◌∙◌}
 use Rattle.rx_term.specs.Store.{tree_at}
 use Rattle.rx_term.proofs.KeepLemmas.{Keeps-trans, Keeps-Reclaims}
 use Rattle.psilt_work.specs.Banks.{store_of}
-use Rattle.psilt_work.proofs.EvaluatingLemmas.{still_there, reclaimed_same, grown_same, list_again, keeps_grown, kept_roots}
+use Rattle.psilt_work.proofs.EvaluatingLemmas.{still_there, reclaimed_same, grown_same, list_again, keeps_grown, kept_roots, collected}
 use Rattle.psilt_work.proofs.running.list_anyway.Goals as goal
 
 pub list_of-requires-in-Err-Full : goal.list_of-requires-in-Err-Full
@@ -37,14 +37,20 @@ returns-in-Err-Full-clause-given c =
     let again = reclaimed_same v x t c.reclaim.ensures.reclaims there in
     grown_same x z t c.list_of-in-Err-Full.ensures.grows (still_there (tree_at v t) (tree_at x t) again there) ∙ again ∙ same
 
-pub returns-in_default-clause-keeps : goal.returns-in_default-clause-keeps
-returns-in_default-clause-keeps c = keeps_grown (store_of c.args.bank.now) (store_of c.list_of.new.bank) [] c.list_of.ensures.grows c.list_of.ensures.beside
+pub returns-in-Ok-clause-keeps : goal.returns-in-Ok-clause-keeps
+returns-in-Ok-clause-keeps c = keeps_grown (store_of c.args.bank.now) (store_of c.list_of.new.bank) [] c.list_of.ensures.grows c.list_of.ensures.beside
 
-pub returns-in_default-2-clause-keeps : goal.returns-in_default-2-clause-keeps
-returns-in_default-2-clause-keeps c = keeps_grown (store_of c.args.bank.now) (store_of c.list_of.new.bank) [] c.list_of.ensures.grows c.list_of.ensures.beside
+pub returns-in-Err-Memory-clause-keeps : goal.returns-in-Err-Memory-clause-keeps
+returns-in-Err-Memory-clause-keeps c = keeps_grown (store_of c.args.bank.now) (store_of c.list_of.new.bank) [] c.list_of.ensures.grows c.list_of.ensures.beside
 
-pub returns-in_default-clause-given : goal.returns-in_default-clause-given
-returns-in_default-clause-given c = grown_same (store_of c.args.bank.now) (store_of c.list_of.new.bank) c.args.t c.list_of.ensures.grows c.requires
+pub returns-in-Ok-clause-given : goal.returns-in-Ok-clause-given
+returns-in-Ok-clause-given c = grown_same (store_of c.args.bank.now) (store_of c.list_of.new.bank) c.args.t c.list_of.ensures.grows c.requires
 
-pub returns-in_default-2-clause-given : goal.returns-in_default-2-clause-given
-returns-in_default-2-clause-given c = grown_same (store_of c.args.bank.now) (store_of c.list_of.new.bank) c.args.t c.list_of.ensures.grows c.requires
+pub returns-in-Err-Memory-clause-given : goal.returns-in-Err-Memory-clause-given
+returns-in-Err-Memory-clause-given c = grown_same (store_of c.args.bank.now) (store_of c.list_of.new.bank) c.args.t c.list_of.ensures.grows c.requires
+
+pub returns-in-Err-Full-clause-full : goal.returns-in-Err-Full-clause-full
+returns-in-Err-Full-clause-full c =
+    collected (store_of c.list_of.new.bank) (store_of c.reclaim.new.self) (store_of c.list_of-in-Err-Full.new.bank) c.args.t
+    c.list_of-in-Err-Full.result c.reclaim.ensures.reclaims c.list_of-in-Err-Full.ensures.grows c.list_of-in-Err-Full.ensures.beside
+    c.list_of-in-Err-Full.ensures.full c.list_of-in-Err-Full.ensures.added

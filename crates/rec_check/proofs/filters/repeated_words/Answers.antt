@@ -1,4 +1,7 @@
-use Rattle.rec_check.specs.Named.{as_words}
+use Rattle.std.proofs.Common.{◌≡◌, ◌++◌, subst}
+use Rattle.rec_check.specs.Lookups.{IsNoted, where_known}
+use Rattle.rec_check.specs.Named.{as_word, as_words}
+use Rattle.rec_check.specs.declared.located.Word.{Word}
 use Rattle.rec_check.proofs.LookupLemmas.{repeated_begin, repeated_item}
 use Rattle.rec_check.proofs.filters.repeated_words.Goals as goal
 
@@ -8,6 +11,12 @@ loop-word-init c = repeated_begin c.in_ok-names.names (as_words c.args.before.no
 
 pub loop-word-preserved : goal.loop-word-preserved
 loop-word-preserved c =
-    repeated_item c.loop-word.names c.push_repeated.new.names c.args.words.now c.loop-word.word-index _ c.loop-word.found.items
-    c.push_repeated.new.found.items _ c.loop-word-test.true
-    c.in_ok-push_repeated.ensures.found c.in_ok-push_repeated.ensures.known c.loop-word.invariant
+    let old = c.loop-word.names in
+    let new = c.push_repeated.new.names in
+    let found = as_words c.loop-word.found.items in
+    repeated_item old new c.args.words.now c.loop-word.word-index c.word-item.result c.loop-word.found.items c.push_repeated.new.found.items _
+    c.loop-word-test.true
+    (subst (λ (w : Word). as_words c.push_repeated.new.found.items ≡ found ++ where_known old (as_word w)) c.word-item.is
+    c.in_ok-push_repeated.ensures.found)
+    (subst (λ (w : Word). IsNoted old new (as_word w)) c.word-item.is c.in_ok-push_repeated.ensures.known)
+    c.loop-word.invariant

@@ -1,25 +1,10 @@
-use Rattle.std.proofs.Common.{arith, sym, ap, subst, ◌∙◌, ◌<◌, ◌≡◌, length, length-append, inl, inr}
-use Rattle.std.specs.Prelude.{ℕ, ◌+◌, ◌≢◌, ◌⊎◌, get_or, List, [], ◌∷◌, ◌++◌}
-use Rattle.std.proofs.lemmas.Bool.{cases_eq}
-use Rattle.rec_syntax.specs.Syntax.{Rule, Spec}
+use Rattle.std.proofs.Common.{arith, ap, ◌∙◌, ◌≡◌, length, length-append}
+use Rattle.std.specs.Prelude.{get_or, [], ◌∷◌}
 use Rattle.rec_sorts.specs.Numbering.{IsLetterRule}
 use Rattle.rec_match.specs.Inner.Built.{IsHead}
-use Rattle.rec_match.proofs.ItemLemmas.{get-front, get-last}
 use Rattle.rec_match.proofs.LetterLemmas.{pair-long}
+use Rattle.rec_check.proofs.ListLemmas.{each_more}
 use Rattle.rec_check.proofs.rewriting.head_symbols.Goals as goal
-
--- one symbol more
-more : (y : Spec) (fs fs' : List ℕ) (n k : ℕ) → length fs ≡ n → ((i : ℕ) (r : Rule) → i < n → IsHead y (get_or y.rules i r) (get_or fs i 0))
-    → fs' ≡ fs ++ k ∷ [] → ((r : Rule) → IsHead y (get_or y.rules n r) k)
-    → (i : ℕ) (r : Rule) → i < n + 1 → IsHead y (get_or y.rules i r) (get_or fs' i 0)
-more y fs fs' n k long each e own i r lt = by (cases_eq i n)
-  where
-    by : (i ≡ n) ⊎ (i ≢ n) → IsHead y (get_or y.rules i r) (get_or fs' i 0)
-    by (inl q) = subst (λ j. IsHead y (get_or y.rules j r) (get_or fs' j 0)) (sym q)
-        (subst (IsHead y (get_or y.rules n r)) (sym (ap (λ xs. get_or xs n 0) e ∙ get-last fs k n 0 (sym long))) (own r))
-    by (inr d) =
-        let below : i < n = omega (arith, lt, d) in
-        subst (IsHead y (get_or y.rules i r)) (sym (ap (λ xs. get_or xs i 0) e ∙ get-front fs k i 0 (omega (arith, below, long)))) (each i r below)
 
 pub head_symbol-requires : goal.head_symbol-requires
 head_symbol-requires c =
@@ -33,8 +18,9 @@ pub loop-rule-preserved : goal.loop-rule-preserved
 loop-rule-preserved c = record {
   counted = (let i = c.loop-rule.invariant.counted in let e = ap length c.in_ok-push.ensures.items
       ∙ length-append c.loop-rule.heads.items (c.head_symbol.result ∷ []) in omega (arith, i, e));
-  each = more c.args.checked.now.spec c.loop-rule.heads.items c.push.new.self.items c.loop-rule.rule c.head_symbol.result
-      c.loop-rule.invariant.counted c.loop-rule.invariant.each c.in_ok-push.ensures.items c.head_symbol.ensures;
+  each = λ i r lt. each_more (λ j k. IsHead c.args.checked.now.spec (get_or c.args.checked.now.spec.rules j r) k) c.loop-rule.heads.items
+      c.push.new.self.items c.loop-rule.rule c.head_symbol.result c.loop-rule.invariant.counted (λ j below. c.loop-rule.invariant.each j r below)
+      c.in_ok-push.ensures.items (c.head_symbol.ensures r) i lt;
 }
 
 pub returns : goal.returns

@@ -10,6 +10,7 @@ use Rattle.rec_sorts.specs.Lookup.{symbols}
 use Rattle.rec_check.specs.Inner.Grounds.{sorts_had}
 use Rattle.rec_check.specs.declared.uncovered.Ground.{Ground}
 use Rattle.rec_check.proofs.UncoveredLemmas.{at_below, call_is}
+use Rattle.rec_check.proofs.WordLemmas.{word_end}
 use Rattle.rec_check.proofs.uncovered.apply.Goals as goal
 
 pub symbol_name-requires : goal.symbol_name-requires
@@ -38,4 +39,5 @@ returns c = λ sorts all.
       shown = r.3;
       sorted = c.word.ensures ∙ ap (λ (x : Sourced). (word_of x.source c.args.declaration.now.sort).bytes) c.syntax.ensures.same;
       placed = refl;
+      ended = word_end s.source c.args.declaration.now.name c.requires.within.name;
     }

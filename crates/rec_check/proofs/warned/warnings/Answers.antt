@@ -1,6 +1,7 @@
 use Rattle.std.proofs.Common.{ap, ◌++◌, ◌∙◌}
+use Rattle.std.proofs.lemmas.List.{map-append}
 use Rattle.rec_syntax.specs.Syntax.{Sourced}
-use Rattle.rec_check.specs.Findings.{as_examples, as_findings, never_matching, never_tried, unused}
+use Rattle.rec_check.specs.Findings.{as_diagnostic, as_diagnostics, never_matching, never_tried, unused, without_rules}
 use Rattle.rec_check.specs.Inner.Inside.{never_matching_inside}
 use Rattle.rec_check.proofs.RewritingLemmas.{same_matching}
 use Rattle.rec_check.proofs.RunLemmas.{if_ok_warned}
@@ -14,11 +15,12 @@ returns c =
     let tried = never_tried text y [] y.rules in
     let inside = never_matching_inside text y in
     let first = c.push_rewritten.new.found.items in
-    if_ok_warned c.in_order.result tried (never_matching text y) inside (unused y) (as_examples c.args.examples.now)
-    (as_findings c.push_examples.new.found.items)
-    (c.in_ok-push_examples.ensures
-    ∙ ap (λ fs. fs ++ as_examples c.args.examples.now)
-    (c.in_ok-push_unused.ensures
-    ∙ ap (λ (s : Sourced). as_findings first ++ unused s.spec) c.syntax.ensures.same
-    ∙ ap (λ fs. fs ++ unused y) (c.in_ok-push_rewritten.ensures ∙ ap (λ fs. (as_findings fs ++ tried) ++ inside) c.new-found.ensures.items)))
+    if_ok_warned c.in_order.result tried (never_matching text y) inside (unused y ++ without_rules y) (as_diagnostics c.args.missing.items)
+    (as_diagnostics c.append.new.self.items)
+    (ap as_diagnostics c.in_ok-append.ensures.items
+    ∙ map-append as_diagnostic c.push_declarations.new.found.items c.args.missing.items
+    ∙ ap (λ fs. fs ++ as_diagnostics c.args.missing.items)
+    (c.in_ok-push_declarations.ensures
+    ∙ ap (λ (s : Sourced). as_diagnostics first ++ (unused s.spec ++ without_rules s.spec)) c.syntax.ensures.same
+    ∙ ap (λ fs. fs ++ (unused y ++ without_rules y)) (c.in_ok-push_rewritten.ensures ∙ ap (λ fs. (as_diagnostics fs ++ tried) ++ inside) c.new-found.ensures.items)))
     (same_matching text y) c.in_order.ensures

@@ -1,4 +1,4 @@
-use Rattle.std.proofs.Common.{List, subst, sym}
+use Rattle.std.proofs.Common.{◌≡◌, List, ap, subst, sym, ◌∙◌}
 use Rattle.std.specs.Prelude.{ℕ}
 use Rattle.rx_term.specs.Tree.{Tree}
 use Rattle.rx_run.proofs.ErrorLemmas.{if_err_at}
@@ -7,12 +7,12 @@ use Rattle.rec_look.specs.Inner.Pages.{Breaks, Prints}
 use Rattle.rec_look.specs.Traces.{shown_by}
 use Rattle.rec_syntax.specs.Syntax.{Spec}
 use Rattle.rec_trace.specs.Tracing.{Stands, rest_of}
-use Rattle.rec_look.specs.Inner.Telling.{IsTelling, IsWithin, told}
-use Rattle.rec_look.proofs.BeginLemmas.{begun-within, task-breaks-first, task-breaks-rest, task-prints}
+use Rattle.rec_look.specs.Inner.Telling.{IsTelling, IsWithin, is_passed, told}
+use Rattle.rec_look.proofs.BeginLemmas.{begun-limited, begun-within, task-breaks-first, task-breaks-rest, task-prints}
 use Rattle.rec_look.proofs.ending.write_trace.Goals as goal
 
-pub write_first-requires-clause-stands : goal.write_first-requires-clause-stands
-write_first-requires-clause-stands g c = c.requires.begins.1.stands
+pub write_first-requires : goal.write_first-requires
+write_first-requires g c = record { stands = c.requires.begins.1.stands }
 
 pub write_rest-requires-clause-stands : goal.write_rest-requires-clause-stands
 write_rest-requires-clause-stands g c = subst (λ (z : Spec). Stands z (g.B.TermBank.store c.write_first.new.engine.bank) c.write_first.new.tracer)
@@ -42,22 +42,22 @@ returns-in_err-write_first-clause-err g c =
     telling.options.run.steps task w c.args.tracer c.args.notes.now begun notes c.args.out.now c.write_first.new.out c.args.lines.now
     c.in_err-write_first.field-0.0 c.in_err-write_first.ensures.err)
 
-pub returns-in_err-write_rest-clause-err : goal.returns-in_err-write_rest-clause-err
-returns-in_err-write_rest-clause-err g c =
+pub returns-in_err-limited-clause-err : goal.returns-in_err-limited-clause-err
+returns-in_err-limited-clause-err g c =
     let y = c.args.engine.now.spec in
     let w = g.B.TermBank.store c.args.engine.now.bank in
     let w1 = g.B.TermBank.store c.write_first.new.engine.bank in
     let telling = c.args.telling.now in
     let shown = shown_by telling.options in
     let n = telling.options.run.steps in
-    let fault = c.in_err-write_rest.field-0.0 in
+    let fault = c.in_err-limited.field-0.0 in
     let out1 = c.write_first.new.out in
     let out2 = c.write_rest.new.out in
     let lines1 = c.write_first.new.lines in
     let broken = subst (λ (z : Spec). (source : List ℕ) → IsTelling source z telling
     → Breaks g.W.Write.contents out1 out2 lines1 (told source shown n c.args.notes.now (rest_of z w1 c.write_first.new.tracer)) fault)
-    c.write_first.ensures.same.spec c.in_err-write_rest.ensures.err in
-    if_err_at c.from_residual-in_err-write_rest.result _ fault c.from_residual-in_err-write_rest.ensures.1
+    c.write_first.ensures.same.spec c.in_err-limited.ensures.err in
+    if_err_at c.from_residual-in_err-limited.result _ fault c.from_residual-in_err-limited.ensures.1
     (λ source task is begun notes. task-breaks-rest g.W.Write.contents source y shown n task w c.args.tracer c.args.notes.now begun notes
     c.args.out.now out1 out2 c.args.lines.now lines1 fault c.in_ok-write_first.ensures.ok
     (subst (λ (r : Traced Tree). Breaks g.W.Write.contents out1 out2 lines1 (told source shown n c.args.notes.now r) fault) c.in_ok-write_first.ensures.rest
@@ -77,8 +77,20 @@ returns-clause-ok g c =
     let lines2 = c.write_rest.new.lines in
     let printed = subst (λ (z : Spec). (source : List ℕ) → IsTelling source z telling
     → Prints g.W.Write.contents out1 out2 lines1 lines2 (told source shown n c.args.notes.now (rest_of z w1 c.write_first.new.tracer)))
-    c.write_first.ensures.same.spec c.in_ok-write_rest.ensures.ok in
+    c.write_first.ensures.same.spec c.in_ok-limited.ensures.ok in
     λ source task is begun notes. task-prints g.W.Write.contents source y shown n task w c.args.tracer c.args.notes.now begun notes c.args.out.now
     out1 out2 c.args.lines.now lines1 lines2 c.in_ok-write_first.ensures.ok
     (subst (λ (r : Traced Tree). Prints g.W.Write.contents out1 out2 lines1 lines2 (told source shown n c.args.notes.now r))
     c.in_ok-write_first.ensures.rest (printed source is))
+
+pub returns-clause-limit : goal.returns-clause-limit
+returns-clause-limit g c =
+    let y = c.args.engine.now.spec in
+    let w = g.B.TermBank.store c.args.engine.now.bank in
+    let w1 = g.B.TermBank.store c.write_first.new.engine.bank in
+    let n = c.args.telling.now.options.run.steps in
+    let limited = c.in_ok-limited.limited in
+    let passed = subst (λ (z : Spec). limited ≡ is_passed (rest_of z w1 c.write_first.new.tracer).outcome) c.write_first.ensures.same.spec
+    c.in_ok-limited.ensures.limit in
+    λ task begun. passed ∙ ap (λ (t : Traced Tree). is_passed t.outcome) c.in_ok-write_first.ensures.rest
+    ∙ begun-limited y w n c.args.tracer task begun

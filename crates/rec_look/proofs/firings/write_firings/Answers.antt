@@ -7,7 +7,7 @@ use Rattle.rec_look.specs.Picks.{front_lines, last_lines}
 use Rattle.rec_look.specs.Inner.Telling.{end_line}
 use Rattle.rec_look.specs.Traces.{picked_lines, shown_by}
 use Rattle.rec_look.proofs.FiringLemmas.{steps-parts, told-parts}
-use Rattle.rec_look.proofs.PageLemmas.{breaks-before, breaks-behind, prints-both}
+use Rattle.rec_look.proofs.PageLemmas.{breaks-before, breaks-behind, fault-trace, prints-both}
 use Rattle.rec_look.proofs.firings.write_firings.Goals as goal
 
 pub returns-in_err-write_kept-clause-err : goal.returns-in_err-write_kept-clause-err
@@ -40,3 +40,10 @@ returns-clause-ok g c =
     (prints-both g.W.Write.contents c.args.out.now c.write_steps.new.out c.write_kept.new.out c.args.lines.now c.write_steps.new.lines
     c.write_kept.new.lines (joined (front_lines shown.picked ls)) (joined (last_lines shown.picked ls)) (c.in_ok-outcome.ensures.ok source is)
     (c.in_ok-write_kept.ensures.ok shown.picked ls (c.in_ok-outcome.ensures.kept_on source is)))
+
+pub returns-in_err-write_kept-clause-reports : goal.returns-in_err-write_kept-clause-reports
+returns-in_err-write_kept-clause-reports g c =
+    let e = c.write_steps.new.engine in
+    let fault = c.in_err-write_kept.field-0.0 in
+    fault-trace (g.B.TermBank.store e.bank) e.memo c.args.out.now c.write_kept.new.out c.write_steps.new.out c.from_residual-in_err-write_kept.result fault
+    c.from_residual-in_err-write_kept.ensures.1 c.in_ok-outcome.ensures.reports.0 c.in_err-write_kept.ensures.reports

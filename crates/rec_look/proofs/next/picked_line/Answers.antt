@@ -20,4 +20,4 @@ returns-in_ok-keep-in-Behind-clause-line g c = λ source w t before is kept f on
     let line = c.in_ok-line-in-Behind.line in
     takes-behind source c.args.telling.now.options before f.firing c.args.kept.now c.keep.new.self line one
     (c.in_ok-line-in-Behind.ensures.text source w t is f) (sym c.place.ensures ∙ c.in-Behind.is) kept
-    (c.in_ok-keep-in-Behind.ensures (picks_by c.args.telling.now.options.picked) before kept)
+    (c.in_ok-keep-in-Behind.ensures.kept (picks_by c.args.telling.now.options.picked) before kept)

@@ -3,7 +3,7 @@ use Rattle.std.proofs.lemmas.Result.{IfErr-weaker}
 use Rattle.rx_run.proofs.ErrorLemmas.{on_ok_of}
 use Rattle.rec_trace.specs.Lines.{joined}
 use Rattle.rec_look.specs.Inner.Pages.{Breaks, Prints}
-use Rattle.rec_look.proofs.PageLemmas.{breaks-after}
+use Rattle.rec_look.proofs.PageLemmas.{breaks-after, engine-trace, page-trace}
 use Rattle.rec_look.proofs.steps.write_fired.Goals as goal
 
 pub returns-in-Ok-clause-ok : goal.returns-in-Ok-clause-ok
@@ -28,4 +28,14 @@ returns-in-Ok-clause-err g c =
 
 pub returns-in-Err-clause-err : goal.returns-in-Err-clause-err
 returns-in-Err-clause-err g c = λ source w t before is kept f.
-    breaks-after g.W.Write.contents c.args.out.now c.args.lines.now _ c.in-Err.fault _ c.fault_after.ensures
+    breaks-after g.W.Write.contents c.args.out.now c.args.lines.now _ c.in-Err.fault _ c.engine_fault.ensures
+
+pub returns-in-Err-clause-reports : goal.returns-in-Err-clause-reports
+returns-in-Err-clause-reports g c =
+    let e = c.next_line.new.engine in
+    engine-trace c.args.out.now (g.B.TermBank.store e.bank) e.memo c.in-Err.fault _ c.engine_fault.result c.in-Err.ensures.room c.engine_fault.ensures
+
+pub returns-in-Ok-clause-reports : goal.returns-in-Ok-clause-reports
+returns-in-Ok-clause-reports g c =
+    let e = c.next_line.new.engine in
+    page-trace (g.B.TermBank.store e.bank) e.memo c.args.out.now c.print_some.new.out c.print_some.result c.print_some.ensures.reports

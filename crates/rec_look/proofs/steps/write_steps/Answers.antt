@@ -20,7 +20,7 @@ turns-init g c = record {
   so_far = so-far-none g.W.Write.contents c.args.engine.now.spec c.args.telling.now
       (rest_of c.args.engine.now.spec (g.B.TermBank.store c.args.engine.now.bank) c.args.tracer.now) c.args.kept.now c.args.out.now c.args.lines.now
       c.requires.none;
-  writable = c.requires.open;
+  refused = refl;
   same_output = refl;
 }
 
@@ -58,8 +58,8 @@ turns-preserved g c =
       so_far = so-far-more g.W.Write.contents y telling (rest_of y (g.B.TermBank.store c.args.engine.now.bank) c.args.tracer.now)
           (rest_of y w c.turns.tracer) (rest_of y w' c.write_turn.new.tracer) h.firing c.turns.kept c.write_turn.new.kept c.args.out.now c.turns.out
           c.write_turn.new.out c.args.lines.now c.turns.lines c.write_turn.new.lines i.so_far h.next h.told;
-      writable = c.in_ok-outcome.ensures.cause;
-      same_output = c.in_ok-outcome.ensures.same_output ∙ i.same_output;
+      refused = c.in_ok-outcome.ensures.reports.0.1 ∙ i.refused;
+      same_output = c.in_ok-outcome.ensures.reports.0.0 ∙ i.same_output;
     }
 
 pub returns-in-Some-clause-kept_on : goal.returns-in-Some-clause-kept_on

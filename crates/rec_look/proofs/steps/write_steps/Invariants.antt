@@ -1,5 +1,5 @@
-use Rattle.std.proofs.Common.{length}
-use Rattle.rx_text.specs.Output.{IsSameOutput, IsWritable}
+use Rattle.std.proofs.Common.{◌≡◌, length}
+use Rattle.rx_text.specs.Output.{IsSameOutput}
 use Rattle.rec_engine.specs.Engine.{SameEngine}
 use Rattle.rec_trace.specs.Tracing.{Stands, rest_of}
 use Rattle.rec_look.specs.Inner.Telling.{IsWithin}
@@ -14,7 +14,7 @@ invariant-turns g l = record {
   within : IsWithin l.telling.options.run.steps (rest_of l.fn.engine.spec (g.B.TermBank.store l.engine.bank) l.tracer);
   so_far : SoFar g.W.Write.contents l.fn.engine.spec (rest_of l.fn.engine.spec (g.B.TermBank.store l.fn.engine.bank) l.fn.tracer)
       (rest_of l.fn.engine.spec (g.B.TermBank.store l.engine.bank) l.tracer) l.telling l.kept l.fn.out l.out l.fn.lines l.lines;
-  writable : IsWritable l.out;
+  refused : l.out.refused ≡ l.fn.out.refused;
   same_output : IsSameOutput l.fn.out l.out;
 }
 

@@ -7,7 +7,7 @@ use Rattle.rec_look.specs.Inner.Pages.{Breaks}
 use Rattle.rec_look.specs.Picks.{picks_by}
 use Rattle.rec_look.specs.Inner.Telling.{HasKept, HasTold, IsTelling, told_behind}
 use Rattle.rec_look.specs.Traces.{shown_by}
-use Rattle.rec_look.proofs.PageLemmas.{breaks-after}
+use Rattle.rec_look.proofs.PageLemmas.{breaks-after, engine-trace}
 use Rattle.rec_look.proofs.StepLemmas.{event-fired, fired-left, fired-stands, told-break, told-turn, value-left}
 use Rattle.rec_look.proofs.steps.write_turn.Goals as goal
 
@@ -55,7 +55,7 @@ write_fired-requires-clause-telling g c = (
 
 pub returns-in-Err-clause-err : goal.returns-in-Err-clause-err
 returns-in-Err-clause-err g c = λ source notes before is kept.
-    breaks-after g.W.Write.contents c.args.out.now c.args.lines.now _ c.in-Err.fault _ c.fault_after.ensures
+    breaks-after g.W.Write.contents c.args.out.now c.args.lines.now _ c.in-Err.fault _ c.engine_fault.ensures
 
 pub returns-in_err-write_fired-in-Ok-Fired-clause-err : goal.returns-in_err-write_fired-in-Ok-Fired-clause-err
 returns-in_err-write_fired-in-Ok-Fired-clause-err g c =
@@ -96,3 +96,8 @@ returns-in_ok-write_fired-in-Ok-Fired-clause-turn g c =
     (λ source before is kept. c.in_ok-write_fired-in-Ok-Fired.ensures.ok source w old before is kept f) in
     subst (λ (z : Spec). HasTold g.W.Write.contents z w w2 old c.write_fired.new.tracer telling c.args.kept.now c.write_fired.new.kept c.args.out.now
     c.write_fired.new.out c.args.lines.now c.write_fired.new.lines) same told
+
+pub returns-in-Err-clause-reports : goal.returns-in-Err-clause-reports
+returns-in-Err-clause-reports g c =
+    let e = c.next_event.new.engine in
+    engine-trace c.args.out.now (g.B.TermBank.store e.bank) e.memo c.in-Err.fault _ c.engine_fault.result c.in-Err.ensures.room c.engine_fault.ensures

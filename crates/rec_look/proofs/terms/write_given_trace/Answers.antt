@@ -1,14 +1,15 @@
-use Rattle.std.proofs.Common.{◌≡◌, IfErr, List, OnOk, subst}
+use Rattle.std.proofs.Common.{◌≡◌, IfErr, IfOk, List, OnOk, subst}
 use Rattle.std.specs.Prelude.{ℕ}
-use Rattle.std.proofs.lemmas.Result.{IfErr-weaker}
+use Rattle.std.proofs.lemmas.Result.{IfErr-weaker, IfOk-weaker}
 use Rattle.rx_run.proofs.ErrorLemmas.{on_ok_of}
 use Rattle.rec_syntax.specs.Syntax.{Spec}
-use Rattle.rec_run.specs.Output.{Task, notes_text}
+use Rattle.rec_run.specs.Output.{Task, is_limited, notes_text}
 use Rattle.rec_look.specs.Inner.Pages.{Breaks, Prints}
 use Rattle.rec_look.specs.Inner.Telling.{Begins, IsTelling}
 use Rattle.rec_run.specs.Output.{given_task}
+use Rattle.rec_run.specs.declared.options.ValueForm.TheVariants.{Plain}
 use Rattle.rec_look.specs.Traces.{shown_by, task_text}
-use Rattle.rec_look.proofs.PageLemmas.{breaks-after}
+use Rattle.rec_look.proofs.PageLemmas.{breaks-after, engine-trace}
 use Rattle.rec_look.proofs.terms.write_given_trace.Goals as goal
 
 pub returns-in-Ok-clause-ok : goal.returns-in-Ok-clause-ok
@@ -51,4 +52,23 @@ returns-in-Ok-clause-err g c =
 
 pub returns-in-Err-clause-err : goal.returns-in-Err-clause-err
 returns-in-Err-clause-err g c = λ source u is spells notes. breaks-after g.W.Write.contents c.args.out.now c.args.lines.now _ c.in-Err.fault _
-    c.fault_after.ensures
+    c.engine_fault.ensures
+
+pub returns-in-Err-clause-reports : goal.returns-in-Err-clause-reports
+returns-in-Err-clause-reports g c =
+    let e = c.of_given.new.engine in
+    engine-trace c.args.out.now (g.B.TermBank.store e.bank) e.memo c.in-Err.fault _ c.engine_fault.result c.in-Err.ensures.room c.engine_fault.ensures
+
+pub returns-in-Ok-clause-limit : goal.returns-in-Ok-clause-limit
+returns-in-Ok-clause-limit g c =
+    let w = g.B.TermBank.store c.of_given.new.engine.bank in
+    let n = c.args.telling.now.options.run.steps in
+    let k = subst (λ (z : Spec). IfOk c.write_trace.result (λ limited. (task : Task) → Begins z w n c.in-Ok.tracer task.term → limited ≡ is_limited z Plain n task))
+    c.of_given.ensures.same.spec c.write_trace.ensures.limit in
+    IfOk-weaker c.write_trace.result _ _ (λ limited h u spells.
+    h (given_task u) (record {
+      stands = c.in-Ok.ensures.stands;
+      trace = c.in-Ok.ensures.begins u spells;
+      whole =
+          c.in-Ok.ensures.whole u spells;
+    })) k

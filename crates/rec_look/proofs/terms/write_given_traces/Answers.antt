@@ -4,11 +4,13 @@ use Rattle.rx_term.specs.Tree.{Tree, annotations, list_of, none}
 use Rattle.rec_syntax.specs.Syntax.{Spec}
 use Rattle.rx_run.proofs.ErrorLemmas.{if_err_at}
 use Rattle.rec_engine.specs.Engine.{Spells}
-use Rattle.rec_run.specs.Output.{notes_text}
+use Rattle.rec_run.specs.Output.{is_limited, notes_text}
+use Rattle.rec_run.proofs.LimitLineLemmas.{count-all, count-more, one-line}
 use Rattle.rec_trace.proofs.ListLemmas.{same_both}
 use Rattle.rec_look.specs.Inner.Pages.{Breaks, Prints}
 use Rattle.rec_look.specs.Inner.Telling.{IsTelling}
 use Rattle.rec_run.specs.Output.{given_task}
+use Rattle.rec_run.specs.declared.options.ValueForm.TheVariants.{Plain}
 use Rattle.rec_look.specs.Traces.{shown_by, task_text}
 use Rattle.rec_look.proofs.GivenLemmas.{given-long, given-low, given-notes, given-spells, notes-long}
 use Rattle.rec_look.proofs.TaskLemmas.{breaks-within, prints-all, prints-more}
@@ -36,21 +38,21 @@ write_given_trace-requires-clause-given g c =
           c.index-letters.ensures c.deref.ensures.value),
     )
 
-pub returns-in_err-write_given_trace-clause-err : goal.returns-in_err-write_given_trace-clause-err
-returns-in_err-write_given_trace-clause-err g c =
+pub returns-in_err-limited-clause-err : goal.returns-in_err-limited-clause-err
+returns-in_err-limited-clause-err g c =
     let y = c.args.engine.now.spec in
     let terms = c.args.terms.now in
     let telling = c.args.telling.now in
     let shown = shown_by telling.options in
     let n = telling.options.run.steps in
     let i = c.loop-i.invariant in
-    let fault = c.in_err-write_given_trace.field-0.0 in
+    let fault = c.in_err-limited.field-0.0 in
     let a = c.len-i-end.ensures in
     let b = terms.letters.ok.0 in
     let low : c.loop-i.i < length terms.letters.items = omega (arith, a, b) in
     let broken = subst (λ (z : Spec). (source : List ℕ) (u : Tree) → IsTelling source z telling → Spells z c.deref.result.now u
     → c.deref-in-loop-i.result.now ≡ notes_text (annotations u) → Breaks g.W.Write.contents c.loop-i.out c.write_given_trace.new.out
-    c.loop-i.lines (task_text source z shown n (given_task u)) fault) i.same.spec c.in_err-write_given_trace.ensures.err in
+    c.loop-i.lines (task_text source z shown n (given_task u)) fault) i.same.spec c.in_err-limited.ensures.err in
     if_err_at c.from_residual.result _ fault c.from_residual.ensures.1
     (λ source us is given.
     breaks-within g.W.Write.contents (λ u. task_text source y shown n (given_task u)) us c.args.out.now c.loop-i.out c.write_given_trace.new.out
@@ -73,9 +75,9 @@ loop-i-preserved g c =
     let low : c.loop-i.i < length terms.letters.items = omega (arith, a, b) in
     let printed = subst (λ (z : Spec). (source : List ℕ) (u : Tree) → IsTelling source z telling → Spells z c.deref.result.now u
     → c.deref-in-loop-i.result.now ≡ notes_text (annotations u) → Prints g.W.Write.contents c.loop-i.out c.write_given_trace.new.out
-    c.loop-i.lines c.write_given_trace.new.lines (task_text source z shown n (given_task u))) i.same.spec c.in_ok-write_given_trace.ensures.ok in
+    c.loop-i.lines c.write_given_trace.new.lines (task_text source z shown n (given_task u))) i.same.spec c.in_ok-limited.ensures.ok in
     record {
-      same = same_both i.same c.in_ok-write_given_trace.ensures.same;
+      same = same_both i.same c.in_ok-limited.ensures.same;
       printed = λ source us is given.
           prints-more g.W.Write.contents (λ u. task_text source y shown n (given_task u)) us c.args.out.now c.loop-i.out c.write_given_trace.new.out
           c.args.lines.now c.loop-i.lines c.write_given_trace.new.lines c.loop-i.i (list_of none) (given-low y us terms c.loop-i.i given low)
@@ -85,8 +87,17 @@ loop-i-preserved g c =
           c.deref.ensures.value)
           (given-notes y us terms c.loop-i.i c.index-notes.result.now c.deref-in-loop-i.result.now (list_of none) given low c.index-notes.ensures
           c.deref-in-loop-i.ensures.value));
-      writable = c.in_ok-write_given_trace.ensures.cause;
-      same_output = c.in_ok-write_given_trace.ensures.same_output ∙ i.same_output;
+      few = omega (arith, one-line c.in_ok-limited.limited, c.from-limits.ensures, i.few);
+      limits = λ us given.
+          let spells = given-spells y us terms c.loop-i.i c.index-letters.result.now c.deref.result.now (list_of none) given low c.index-letters.ensures
+          c.deref.ensures.value in
+          let limited = subst (λ (z : Spec). (u : Tree) → Spells z c.deref.result.now u → c.in_ok-limited.limited ≡ is_limited z Plain n (given_task u))
+          i.same.spec c.in_ok-limited.ensures.limit in
+          count-more (λ u. is_limited y Plain n (given_task u)) us c.loop-i.i (list_of none) c.loop-i.limits _ c.in_ok-limited.limited
+          (given-low y us terms c.loop-i.i given low) (i.limits us given) c.from-limits.ensures
+          (limited (get_or us c.loop-i.i (list_of none)) spells);
+      refused = c.in_ok-limited.ensures.reports.0.1 ∙ i.refused;
+      same_output = c.in_ok-limited.ensures.reports.0.0 ∙ i.same_output;
     }
 
 pub returns-clause-ok : goal.returns-clause-ok
@@ -102,3 +113,15 @@ returns-clause-ok g c =
     λ source us is given.
     prints-all g.W.Write.contents (λ u. task_text source y shown n (given_task u)) us c.args.out.now c.loop-i.out c.args.lines.now c.loop-i.lines
     c.loop-i.i (subst (λ k. k ≤ c.loop-i.i) (sym (given-long y us terms given)) all) (c.loop-i.invariant.printed source us is given)
+
+pub returns-clause-limits : goal.returns-clause-limits
+returns-clause-limits g c =
+    let y = c.args.engine.now.spec in
+    let n = c.args.telling.now.options.run.steps in
+    let terms = c.args.terms.now in
+    let a = c.len-i-end.ensures in
+    let b = terms.letters.ok.0 in
+    let all : length terms.letters.items ≤ c.loop-i.i = omega (arith, a, b) in
+    λ us given.
+    count-all (λ u. is_limited y Plain n (given_task u)) us c.loop-i.i c.loop-i.limits (subst (λ k. k ≤ c.loop-i.i) (sym (given-long y us terms given)) all)
+    (c.loop-i.invariant.limits us given)

@@ -1,7 +1,9 @@
-use Rattle.std.proofs.Common.{ℕ, List, take}
+use Rattle.std.proofs.Common.{◌≡◌, ◌≤◌, ℕ, List, take}
 use Rattle.rx_term.specs.Tree.{Tree}
-use Rattle.rx_text.specs.Output.{IsSameOutput, IsWritable}
+use Rattle.rx_text.specs.Output.{IsSameOutput}
 use Rattle.rec_engine.specs.Engine.{SameEngine}
+use Rattle.rec_run.specs.Output.{given_limits}
+use Rattle.rec_run.specs.declared.options.ValueForm.TheVariants.{Plain}
 use Rattle.rec_look.specs.Inner.Pages.{Prints}
 use Rattle.rec_look.specs.Inner.Telling.{AreGivenTerms, IsTelling, given_traces}
 use Rattle.rec_look.specs.Traces.{shown_by}
@@ -14,6 +16,9 @@ invariant-loop-i g l = record {
   printed : (source : List ℕ) (us : List Tree) → IsTelling source l.fn.engine.spec l.telling → AreGivenTerms l.fn.engine.spec us l.terms
       → Prints g.W.Write.contents l.fn.out l.out l.fn.lines l.lines
       (given_traces source l.fn.engine.spec (shown_by l.telling.options) l.telling.options.run.steps (take l.i us));
-  writable : IsWritable l.out;
+  few : l.limits ≤ l.i;
+  limits : (us : List Tree) → AreGivenTerms l.fn.engine.spec us l.terms
+      → l.limits ≡ given_limits l.fn.engine.spec Plain l.telling.options.run.steps (take l.i us);
+  refused : l.out.refused ≡ l.fn.out.refused;
   same_output : IsSameOutput l.fn.out l.out;
 }

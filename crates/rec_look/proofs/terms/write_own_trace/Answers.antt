@@ -1,15 +1,16 @@
-use Rattle.std.proofs.Common.{◌≡◌, IfErr, List, OnOk, [], refl, subst, sym}
+use Rattle.std.proofs.Common.{◌≡◌, IfErr, IfOk, List, OnOk, [], refl, subst, sym}
 use Rattle.std.specs.Prelude.{ℕ}
-use Rattle.std.proofs.lemmas.Result.{IfErr-weaker}
+use Rattle.std.proofs.lemmas.Result.{IfErr-weaker, IfOk-weaker}
 use Rattle.rx_run.proofs.ErrorLemmas.{on_ok_of}
-use Rattle.rec_run.specs.Output.{Task, notes_text}
+use Rattle.rec_run.specs.Output.{Task, is_limited, notes_text}
 use Rattle.rec_look.specs.Inner.Pages.{Breaks, Prints}
 use Rattle.rec_look.specs.Traces.{shown_by, task_text}
-use Rattle.rec_look.proofs.PageLemmas.{breaks-after}
+use Rattle.rec_look.proofs.PageLemmas.{breaks-after, engine-trace}
 use Rattle.rec_syntax.specs.Syntax.{Spec}
 use Rattle.rec_run.specs.Reading.{term_at}
 use Rattle.rec_look.specs.Inner.Telling.{Begins, IsTelling}
 use Rattle.rec_run.specs.Reading.{own_task}
+use Rattle.rec_run.specs.declared.options.ValueForm.TheVariants.{Plain}
 use Rattle.rec_look.proofs.BeginLemmas.{begins-same, own-begins}
 use Rattle.rec_look.proofs.terms.write_own_trace.Goals as goal
 
@@ -56,4 +57,19 @@ returns-in-Ok-clause-err g c =
     IfErr-weaker c.write_trace.result _ _ (λ fault h source is. h source (own_task y c.args.i) is begun refl) k
 
 pub returns-in-Err-clause-err : goal.returns-in-Err-clause-err
-returns-in-Err-clause-err g c = λ source is. breaks-after g.W.Write.contents c.args.out.now c.args.lines.now _ c.in-Err.fault _ c.fault_after.ensures
+returns-in-Err-clause-err g c = λ source is. breaks-after g.W.Write.contents c.args.out.now c.args.lines.now _ c.in-Err.fault _ c.engine_fault.ensures
+
+pub returns-in-Err-clause-reports : goal.returns-in-Err-clause-reports
+returns-in-Err-clause-reports g c =
+    let e = c.of_eval.new.engine in
+    engine-trace c.args.out.now (g.B.TermBank.store e.bank) e.memo c.in-Err.fault _ c.engine_fault.result c.in-Err.ensures.room c.engine_fault.ensures
+
+pub returns-in-Ok-clause-limit : goal.returns-in-Ok-clause-limit
+returns-in-Ok-clause-limit g c =
+    let y = c.args.engine.now.spec in
+    let w = g.B.TermBank.store c.of_eval.new.engine.bank in
+    let n = c.args.telling.now.options.run.steps in
+    let begun = own-begins y w n c.args.i c.in-Ok.tracer c.requires.there c.in-Ok.ensures.stands c.in-Ok.ensures.begins c.in-Ok.ensures.whole in
+    let k = subst (λ (z : Spec). IfOk c.write_trace.result (λ limited. (task : Task) → Begins z w n c.in-Ok.tracer task.term → limited ≡ is_limited z Plain n task))
+    c.of_eval.ensures.same.spec c.write_trace.ensures.limit in
+    IfOk-weaker c.write_trace.result _ _ (λ limited h. h (own_task y c.args.i) begun) k

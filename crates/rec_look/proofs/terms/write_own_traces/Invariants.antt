@@ -1,9 +1,11 @@
-use Rattle.std.proofs.Common.{ℕ, List, take}
-use Rattle.std.specs.Prelude.{flat_map}
+use Rattle.std.proofs.Common.{◌≡◌, ◌≤◌, ℕ, List, take}
+use Rattle.std.specs.Prelude.{count_by, flat_map}
 use Rattle.rx_term.specs.Tree.{none}
-use Rattle.rx_text.specs.Output.{IsSameOutput, IsWritable}
+use Rattle.rx_text.specs.Output.{IsSameOutput}
 use Rattle.rec_syntax.specs.Syntax.{Term}
 use Rattle.rec_engine.specs.Engine.{SameEngine}
+use Rattle.rec_run.specs.Output.{is_limited}
+use Rattle.rec_run.specs.declared.options.ValueForm.TheVariants.{Plain}
 use Rattle.rec_look.specs.Inner.Pages.{Prints}
 use Rattle.rec_look.specs.Inner.Telling.{IsTelling}
 use Rattle.rec_look.specs.Traces.{shown_by, task_text}
@@ -17,6 +19,9 @@ invariant-loop-i g l = record {
       → Prints g.W.Write.contents l.fn.out l.out l.fn.lines l.lines
       (flat_map (λ (t : Term). task_text source l.fn.engine.spec (shown_by l.telling.options) l.telling.options.run.steps
       (record { term = t; notes = none })) (take l.i l.fn.engine.spec.terms));
-  writable : IsWritable l.out;
+  few : l.limits ≤ l.i;
+  limits : l.limits ≡ count_by (λ (t : Term). is_limited l.fn.engine.spec Plain l.telling.options.run.steps (record { term = t; notes = none }))
+      (take l.i l.fn.engine.spec.terms);
+  refused : l.out.refused ≡ l.fn.out.refused;
   same_output : IsSameOutput l.fn.out l.out;
 }

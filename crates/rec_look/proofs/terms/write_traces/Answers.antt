@@ -1,15 +1,18 @@
-use Rattle.std.proofs.Common.{IfErr, List, OnOk, [], subst, sym}
-use Rattle.std.specs.Prelude.{ℕ}
-use Rattle.std.proofs.lemmas.Result.{IfErr-weaker}
+use Rattle.std.proofs.Common.{◌≡◌, List, [], ap₂, subst, sym, ◌∙◌}
+use Rattle.std.specs.Prelude.{ℕ, ◌+◌, ◌++◌}
 use Rattle.rx_term.specs.Tree.{Tree}
 use Rattle.rx_text.specs.Output.{Writes, contents_of}
 use Rattle.rx_run.specs.Run.{Stops}
-use Rattle.rx_run.proofs.ErrorLemmas.{on_ok_of}
+use Rattle.rx_run.specs.declared.ending.RunFault.TheVariants.{Memory}
+use Rattle.rx_run.proofs.ErrorLemmas.{if_err_at}
 use Rattle.rec_syntax.specs.Syntax.{Spec}
+use Rattle.rec_run.specs.Output.{given_limits, limit_lines}
+use Rattle.rec_run.proofs.LimitLineLemmas.{limits-both}
+use Rattle.rec_run.specs.declared.options.ValueForm.TheVariants.{Plain}
 use Rattle.rec_look.specs.Inner.Pages.{Breaks, Prints}
 use Rattle.rec_look.specs.Inner.Telling.{AreGivenTerms, IsTelling, given_traces}
 use Rattle.rec_look.specs.Traces.{shown_by, traces}
-use Rattle.rec_look.proofs.PageLemmas.{breaks-behind, breaks-first, prints-both}
+use Rattle.rec_look.proofs.PageLemmas.{breaks-before, breaks-behind, breaks-first, breaks-whole, prints-both}
 use Rattle.rec_look.proofs.TaskLemmas.{traces-both}
 use Rattle.rec_look.proofs.terms.write_traces.Goals as goal
 
@@ -19,42 +22,83 @@ write_given_traces-requires-clause-given g c = (
   subst (λ (z : Spec). AreGivenTerms z c.requires.given.0 c.args.terms.now) (sym c.write_own_traces.ensures.same.spec) c.requires.given.1,
 )
 
-pub returns-clause-ok : goal.returns-clause-ok
-returns-clause-ok g c =
+pub returns-in_err-own-clause-err : goal.returns-in_err-own-clause-err
+returns-in_err-own-clause-err g c =
     let y = c.args.engine.now.spec in
     let telling = c.args.telling.now in
     let shown = shown_by telling.options in
     let n = telling.options.run.steps in
-    let out1 = c.write_own_traces.new.out in
-    let out2 = c.write_given_traces.new.out in
-    let lines1 = c.write_own_traces.new.lines in
-    let lines2 = c.write_given_traces.new.lines in
-    let k = subst (λ (z : Spec). OnOk c.write_given_traces.result ((source : List ℕ) (us : List Tree) → IsTelling source z telling
-    → AreGivenTerms z us c.args.terms.now → Prints g.W.Write.contents out1 out2 lines1 lines2 (given_traces source z shown n us)))
-    c.write_own_traces.ensures.same.spec c.write_given_traces.ensures.ok in
-    on_ok_of c.write_given_traces.result
-    (λ h source us is given. subst (λ text. Writes g.W.Write.contents c.args.out.now out2 text) (sym (traces-both source y shown n us))
-    (prints-both g.W.Write.contents c.args.out.now out1 out2 0 lines1 lines2 (traces source y [] shown n) (given_traces source y shown n us)
-    (c.in_ok-write_own_traces.ensures.ok source is) (h source us is given)).written)
-    k
+    let new = c.write_own_traces.new.out in
+    let fault = c.in_err-own.field-0.0 in
+    if_err_at c.from_residual.result _ fault c.from_residual.ensures.1
+    (λ source us is given. subst (λ text. Stops fault text (contents_of g.W.Write.contents c.args.out.now) (contents_of g.W.Write.contents new))
+    (sym (traces-both source y shown n us))
+    (breaks-first g.W.Write.contents c.args.out.now new _ fault
+    (breaks-before g.W.Write.contents c.args.out.now new 0 (traces source y [] shown n) (given_traces source y shown n us) fault
+    (c.in_err-own.ensures.err source is))))
 
-pub returns-clause-err : goal.returns-clause-err
-returns-clause-err g c =
+pub returns-in_err-given-clause-err : goal.returns-in_err-given-clause-err
+returns-in_err-given-clause-err g c =
     let y = c.args.engine.now.spec in
     let telling = c.args.telling.now in
     let shown = shown_by telling.options in
     let n = telling.options.run.steps in
     let out1 = c.write_own_traces.new.out in
+    let k1 = c.write_own_traces.new.lines in
     let out2 = c.write_given_traces.new.out in
-    let lines1 = c.write_own_traces.new.lines in
-    let k = subst (λ (z : Spec). IfErr c.write_given_traces.result (λ fault. (source : List ℕ) (us : List Tree) → IsTelling source z telling
-    → AreGivenTerms z us c.args.terms.now → Breaks g.W.Write.contents out1 out2 lines1 (given_traces source z shown n us) fault))
-    c.write_own_traces.ensures.same.spec c.write_given_traces.ensures.err in
-    IfErr-weaker c.write_given_traces.result _ _
-    (λ fault h source us is given.
-    subst (λ text. Stops fault text (contents_of g.W.Write.contents c.args.out.now) (contents_of g.W.Write.contents out2))
+    let k2 = c.write_given_traces.new.lines in
+    let fault = c.in_err-given.field-0.0 in
+    let broken = subst (λ (z : Spec). (source : List ℕ) (us : List Tree) → IsTelling source z telling → AreGivenTerms z us c.args.terms.now
+    → Breaks g.W.Write.contents out1 out2 k1 (given_traces source z shown n us) fault) c.write_own_traces.ensures.same.spec c.in_err-given.ensures.err in
+    if_err_at c.from_residual-in_err-given.result _ fault c.from_residual-in_err-given.ensures.1
+    (λ source us is given. subst (λ text. Stops fault text (contents_of g.W.Write.contents c.args.out.now) (contents_of g.W.Write.contents out2))
     (sym (traces-both source y shown n us))
     (breaks-first g.W.Write.contents c.args.out.now out2 _ fault
-    (breaks-behind g.W.Write.contents c.args.out.now out1 out2 0 lines1 (traces source y [] shown n) (given_traces source y shown n us) fault
-    (c.in_ok-write_own_traces.ensures.ok source is) (h source us is given))))
-    k
+    (breaks-behind g.W.Write.contents c.args.out.now out1 out2 0 k1 (traces source y [] shown n) (given_traces source y shown n us) fault
+    (c.in_ok-own.ensures.ok source is) (broken source us is given))))
+
+pub returns-in-None-clause-err : goal.returns-in-None-clause-err
+returns-in-None-clause-err g c =
+    let y = c.args.engine.now.spec in
+    let telling = c.args.telling.now in
+    let shown = shown_by telling.options in
+    let n = telling.options.run.steps in
+    let out1 = c.write_own_traces.new.out in
+    let k1 = c.write_own_traces.new.lines in
+    let out2 = c.write_given_traces.new.out in
+    let k2 = c.write_given_traces.new.lines in
+    let printed = subst (λ (z : Spec). (source : List ℕ) (us : List Tree) → IsTelling source z telling → AreGivenTerms z us c.args.terms.now
+    → Prints g.W.Write.contents out1 out2 k1 k2 (given_traces source z shown n us)) c.write_own_traces.ensures.same.spec c.in_ok-given.ensures.ok in
+    λ source us is given. subst (λ text. Stops (Memory k2) text (contents_of g.W.Write.contents c.args.out.now)
+    (contents_of g.W.Write.contents out2)) (sym (traces-both source y shown n us))
+    (breaks-first g.W.Write.contents c.args.out.now out2 _ (Memory k2)
+    (breaks-whole g.W.Write.contents c.args.out.now out2 0 k2 (traces source y [] shown n ++ given_traces source y shown n us)
+    (prints-both g.W.Write.contents c.args.out.now out1 out2 0 k1 k2 (traces source y [] shown n) (given_traces source y shown n us)
+    (c.in_ok-own.ensures.ok source is) (printed source us is given))))
+
+pub returns-in-Some-clause-ok : goal.returns-in-Some-clause-ok
+returns-in-Some-clause-ok g c =
+    let y = c.args.engine.now.spec in
+    let telling = c.args.telling.now in
+    let shown = shown_by telling.options in
+    let n = telling.options.run.steps in
+    let out1 = c.write_own_traces.new.out in
+    let k1 = c.write_own_traces.new.lines in
+    let out2 = c.write_given_traces.new.out in
+    let k2 = c.write_given_traces.new.lines in
+    let printed = subst (λ (z : Spec). (source : List ℕ) (us : List Tree) → IsTelling source z telling → AreGivenTerms z us c.args.terms.now
+    → Prints g.W.Write.contents out1 out2 k1 k2 (given_traces source z shown n us)) c.write_own_traces.ensures.same.spec c.in_ok-given.ensures.ok in
+    λ source us is given. subst (λ text. Writes g.W.Write.contents c.args.out.now out2 text) (sym (traces-both source y shown n us))
+    (prints-both g.W.Write.contents c.args.out.now out1 out2 0 k1 k2 (traces source y [] shown n) (given_traces source y shown n us)
+    (c.in_ok-own.ensures.ok source is) (printed source us is given)).written
+
+pub returns-in-Some-clause-limits : goal.returns-in-Some-clause-limits
+returns-in-Some-clause-limits g c =
+    let y = c.args.engine.now.spec in
+    let n = c.args.telling.now.options.run.steps in
+    let own = c.in_ok-own.own in
+    let given = c.in_ok-given.given in
+    let counted = subst (λ (z : Spec). (us : List Tree) → AreGivenTerms z us c.args.terms.now → given ≡ given_limits z Plain n us)
+    c.write_own_traces.ensures.same.spec c.in_ok-given.ensures.limits in
+    let sum : c.in-Some.limits ≡ own + given = c.in-Some.ensures.1 in
+    λ us are. sum ∙ ap₂ (λ a b. a + b) c.in_ok-own.ensures.limits (counted us are) ∙ sym (limits-both y Plain n us)

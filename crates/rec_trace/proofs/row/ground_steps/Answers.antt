@@ -41,8 +41,8 @@ letters-preserved c =
           (c.letters.invariant.row y h) applied c.in-Symbol.is c.in-Ok.ensures.items);
     }
 
-pub returns : goal.returns
-returns c = λ y h.
+pub returns-clause-row : goal.returns-clause-row
+returns-clause-row c = λ y h.
     let t = c.letters-test.false in
     subst (λ k. IsGroundRow y c.letters.steps.items (drop k c.args.letters.now)) (let e : c.letters.at ≡ 0 = omega (arith, t) in e)
     (c.letters.invariant.row y h)

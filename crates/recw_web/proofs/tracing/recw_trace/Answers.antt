@@ -5,7 +5,7 @@ use Rattle.recw_web.proofs.tracing.recw_trace.Goals as goal
 
 pub returns : goal.returns
 returns c =
-    let asked = c.within.result in let run = c.run_trace-end in let over = c.hand_ending in let spec = c.args.spec.now in
+    let asked = c.within.result in let run = c.trace_beside-end in let over = c.hand_ending in let spec = c.args.spec.now in
     answers_traced c.args.options.now (shown_by asked) asked.run.steps spec None over.result over.new.told c.args.out.now over.new.out
     c.within.ensures.steps c.within.ensures.shown
     (answers_ended (IsTraceDueFor (shown_by asked) asked.run.steps (record { spec = spec; terms = None })) run.new.out.items over.result

@@ -3,7 +3,7 @@ use Rattle.rx_term.specs.Tree.{Trees, list_of, count_of}
 use Rattle.rx_term.specs.Store.{tree_at}
 use Rattle.rx_pattern.proofs.lists.count.Given as goal
 
--- so many items were left behind
+-- the items that were passed, by their number
 abbrev pub invariant-loop-counted : goal.invariant-loop-counted
 invariant-loop-counted g l =
     let w = g.B.TermBank.store l.bank in

@@ -18,10 +18,10 @@ returns-in-Good-clause-first c =
     let good = subst (λ (r : Reading Tree). IsPatternRead text r) c.in-Good.is c.in_ok-read_pattern.ensures.read in
     if_ok_map c.misfit_for.result _ _
     (λ found h p v spelt is. subst (λ q. found ≡ misfit_in q v) (one_pattern text c.in-Good.pattern p good spelt) (h v is))
-    c.misfit_for.ensures
+    c.misfit_for.ensures.why
 
 pub returns-in-Good-clause-none : goal.returns-in-Good-clause-none
 returns-in-Good-clause-none c =
     let text = c.args.pattern.now in
     let good = subst (λ (r : Reading Tree). IsPatternRead text r) c.in-Good.is c.in_ok-read_pattern.ensures.read in
-    if_ok_map c.misfit_for.result _ _ (λ found h none. absurd (none c.in-Good.pattern good)) c.misfit_for.ensures
+    if_ok_map c.misfit_for.result _ _ (λ found h none. absurd (none c.in-Good.pattern good)) c.misfit_for.ensures.why

@@ -2,7 +2,7 @@ use Rattle.rx_text.specs.Inner.Jobs.{job_text, job_size}
 use Rattle.rx_text.specs.declared.writer.Job.TheVariants as job
 use Rattle.rx_text.proofs.AppendingLemmas.{appends_same}
 use Rattle.rx_text.proofs.LeavingLemmas.{adds_leaves}
-use Rattle.rx_text.proofs.TellingLemmas.{tells_memory}
+use Rattle.rx_text.proofs.TellingLemmas.{reports_memory}
 use Rattle.rx_text.proofs.writer.write_job.Goals as goal
 
 pub returns-in-Items-clause-written : goal.returns-in-Items-clause-written
@@ -13,5 +13,5 @@ returns-in-Items-clause-written g c =
     rw c.in-Items.is (adds_leaves c.leave_items.result w (job_text w j) (job_size w j) old old c.args.jobs.now.items c.leave_items.new.jobs.items
     c.leave_items.ensures.left (appends_same old))
 
-pub returns-in-Items-clause-cause : goal.returns-in-Items-clause-cause
-returns-in-Items-clause-cause g c = tells_memory c.args.out.now c.leave_items.result c.leave_items.ensures.memory c.requires.open
+pub returns-in-Items-clause-reports : goal.returns-in-Items-clause-reports
+returns-in-Items-clause-reports g c = reports_memory c.args.out.now c.leave_items.result c.leave_items.ensures.memory

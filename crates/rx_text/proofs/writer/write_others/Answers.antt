@@ -17,6 +17,5 @@ returns-in_default g c = record {
   written = nothing_left (g.B.TermBank.store c.args.bank.now) c.args.list c.kind.result (g.W.Write.contents c.args.out.now.writer.now)
       c.args.jobs.now.items c.kind.ensures c.requires.job c.in_default.not-Cons;
   front = tt;
-  same = refl;
-  cause = c.requires.open;
+  reports = (refl, refl);
 }

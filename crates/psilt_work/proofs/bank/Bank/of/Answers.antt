@@ -1,11 +1,11 @@
 use Rattle.std.proofs.Common.{sym, subst}
 use Rattle.rx_shared.specs.State.{store_of}
-use Rattle.rx_shared.specs.declared.bank.SharedBank.{SharedBank}
 use Rattle.rec_engine.specs.Prepared.{FitsIn}
+use Rattle.psilt_work.specs.declared.limited.LimitedBank.{LimitedBank}
 use Rattle.psilt_work.specs.Banks.{AreSymbols}
 use Rattle.psilt_work.proofs.bank.Bank.of.Goals as goal
 
 pub invariant_of-result : goal.invariant_of-result
 invariant_of-result c =
-    subst (λ (s : SharedBank). FitsIn (store_of s) c.apart-shared.result.1 × AreSymbols (store_of s) c.args.symbols.keys)
+    subst (λ (s : LimitedBank). FitsIn (store_of s.shared) c.apart-shared.result.1 × AreSymbols (store_of s.shared) c.args.symbols.keys)
     (sym c.apart-shared.ensures.bank) (c.apart-shared.ensures.fits, c.requires)

@@ -1,7 +1,15 @@
+use Rattle.std.proofs.Common.{subst}
+use Rattle.rx_term.specs.Name.{Signature}
 use Rattle.rx_shared.specs.State.{store_of}
-use Rattle.psilt_work.proofs.BankLemmas.{fits_added}
+use Rattle.rx_shared.specs.declared.bank.SharedBank.{SharedBank}
+use Rattle.psilt_work.specs.Names.{NamesOrRefuses}
+use Rattle.psilt_work.proofs.BankLemmas.{fits_named}
 use Rattle.psilt_work.proofs.bank.Bank.symbol.Goals as goal
 
 pub invariant_of-self : goal.invariant_of-self
-invariant_of-self c = fits_added (store_of c.self.inside.shared) (store_of c.symbol.new.self) c.self.inside.prepared c.self.inside.symbols.keys _
-    c.symbol.result c.symbol.ensures c.self.invariant
+invariant_of-self c =
+    let g : Signature = record { name = c.args.name.now; quoted = c.args.quoted; arity = c.args.arity } in
+    fits_named c.allow.new.self.most (store_of c.self.inside.shared.shared) (store_of c.intern.new.self.shared) c.self.inside.prepared
+    c.self.inside.symbols.keys g c.intern.result
+    (subst (λ (b : SharedBank). NamesOrRefuses c.allow.new.self.most (store_of b) (store_of c.intern.new.self.shared) g c.intern.result)
+    c.allow.ensures.shared c.intern.ensures.answer) c.self.invariant

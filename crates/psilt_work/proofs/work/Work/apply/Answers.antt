@@ -18,4 +18,4 @@ returns-clause-answer c =
     let b = c.args.self.now.bank in
     rw (symbol_at_is b c.args.n c.in-Some.symbol c.in-Some.ensures.symbol, c.term_or_fault.ensures)
     (applies_symbol (signature_of (store_of b) c.in-Some.symbol) (store_of b) (store_of c.apply_symbol.new.bank) c.args.args.now
-    c.apply_symbol.result c.in-Some.ensures.there c.apply_symbol.ensures.grows c.apply_symbol.ensures.made)
+    c.apply_symbol.result c.in-Some.ensures.there c.apply_symbol.ensures.grows c.apply_symbol.ensures.made c.apply_symbol.ensures.full)

@@ -6,7 +6,8 @@ use Rattle.rec_syntax.specs.Syntax.{arguments}
 use Rattle.rec_sorts.specs.Numbering.{IsMeaning, named_by}
 use Rattle.rec_sorts.specs.declared.letters.Letter.{Letter}
 use Rattle.rec_match.proofs.SkipLemmas as skip
-use Rattle.rec_check.specs.Findings.{as_findings, never_matching_in}
+use Rattle.rec_check.specs.Findings.{as_diagnostics, never_matching_in}
+use Rattle.rec_check.specs.Named.{as_word}
 use Rattle.rec_check.specs.Rewriting.{postorder_all, rewritten_by}
 use Rattle.rec_check.proofs.RewritingLemmas.{inner_ends, inner_long, inner_turn, spots_long, word_at_place, words_long}
 use Rattle.rec_check.proofs.rewriting.Rewriter.push_inner_words.Goals as goal
@@ -43,8 +44,8 @@ loop-i-preserved c r =
     let lt : i < length ts = (let long = words_long words ts is in omega (arith, here, long)) in
     let o = rewritten_by y (take c.len.result y.rules) t in
     let ends = inner_ends y c.args.left.letters.now q.left i q.left (c.requires.letters r) lt in
-    inner_turn s.source y ts i q.left _ o (as_findings c.args.found.now.items) (as_findings c.loop-i.found.items) (as_findings c.push.new.found.items)
-    lt (word_at_place words ts i _ q.left is here)
+    inner_turn s.source y ts i q.left (as_word c.index-words-i.result) o (as_diagnostics c.args.found.now.items) (as_diagnostics c.loop-i.found.items) (as_diagnostics c.push.new.found.items)
+    lt (ap as_word c.index-words-i.is ∙ word_at_place words ts i c.index-words-i.result q.left is here)
     (ap (λ rs. rewritten_by y rs t) (take_all c.len.result y.rules (let e = c.len.ensures in let k = c.args.self.now.spots.ok.0 in let l =
     spots_long c.args.self.now c.requires.rules in omega (arith, e, k, l)))) (c.loop-i.invariant r)
     (c.in_ok-push.ensures o (c.in_ok-by.ensures.first ends.0 t (ap (map (named_by y)) c.split_at.ensures.front ∙ ends.1)))
@@ -55,5 +56,5 @@ returns c r =
     let ts = postorder_all (arguments (get_or s.spec.rules c.args.rule r).left) in
     let test = c.loop-i-test.false in
     let long = words_long c.args.words.now ts (c.requires.words r) in
-    c.loop-i.invariant r ∙ ap (λ us. as_findings c.args.found.now.items ++ never_matching_in s.source s.spec us)
+    c.loop-i.invariant r ∙ ap (λ us. as_diagnostics c.args.found.now.items ++ never_matching_in s.source s.spec us)
     (take_all c.loop-i.i ts (omega (arith, test, long)))

@@ -3,7 +3,7 @@ use Rattle.std.specs.Prelude.{◌<◌, get_or, length, take}
 use Rattle.rec_syntax.specs.Syntax.{Sourced, head}
 use Rattle.rec_syntax.specs.Parts.{rule_of, term_of}
 use Rattle.rec_match.proofs.SkipLemmas as skip
-use Rattle.rec_check.specs.Findings.{as_findings}
+use Rattle.rec_check.specs.Findings.{as_diagnostics}
 use Rattle.rec_check.specs.Named.{as_word}
 use Rattle.rec_check.specs.Rewriting.{rewritten_by}
 use Rattle.rec_check.proofs.RewritingLemmas.{left_term, rules_long, tried_turn}
@@ -24,7 +24,7 @@ loop-i-preserved c =
     let long = rules_long s.source items y.rules rules in
     let test = c.loop-i-test.true in
     let lt : i < length items = omega (arith, test) in
-    tried_turn s.source y i d (as_word c.head_of-word.result) o (as_findings c.args.found.now.items) (as_findings c.loop-i.found.items)
-    (as_findings c.push.new.found.items) (omega (arith, lt, long))
+    tried_turn s.source y i d (as_word c.head_of-word.result) o (as_diagnostics c.args.found.now.items) (as_diagnostics c.loop-i.found.items)
+    (as_diagnostics c.push.new.found.items) (omega (arith, lt, long))
     (is ∙ ap head (left_term s.source items y.rules i c.rule-item.result d rules lt c.rule-item.is)) refl c.loop-i.invariant
     (c.in_ok-push.ensures o (c.in_ok-by.ensures.first d))

@@ -1,7 +1,9 @@
 use Rattle.std.proofs.Common.{arith, map, subst, sym, ◌≡◌, ◌++◌}
-use Rattle.std.specs.Prelude.{Option, List, ℕ, take}
+use Rattle.std.proofs.lemmas.List.Elements.{All-drop}
+use Rattle.std.specs.Prelude.{All, Option, List, ℕ, take}
 use Rattle.rec_syntax.specs.Syntax.{Term, head}
-use Rattle.rec_sorts.specs.Numbering.{AreLetters, Named, name_of, named, named_by}
+use Rattle.rec_sorts.specs.Numbering.{AreLetters, IsMeaning, Named, name_of, named, named_by}
+use Rattle.rec_sorts.specs.declared.letters.Letter.{Letter}
 use Rattle.rec_sorts.specs.declared.letters.Meaning.TheVariants.{Symbol}
 use Rattle.rec_check.specs.Rewriting.{IsFirstWord, rewritten_by}
 use Rattle.rec_check.proofs.RewritingLemmas.{first_next, if_ok_so, last_letters, no_rule, none_start}
@@ -22,9 +24,15 @@ returns-clause-first c =
     let y = c.args.self.now.checked.now.spec in
     let terms = c.args.terms.letters.now in
     let n = c.before_last.result in
-    if_ok_so c.rewriting_symbol.result (λ (found : Option ℕ). (t : Term) → AreLetters y c.split_at.result.1.letters.now t
+    if_ok_so c.rewriting_term.result (λ (found : Option ℕ). (t : Term) → AreLetters y c.split_at.result.1.letters.now t
     → (head t).bytes ≡ name_of y (Symbol c.args.symbol) → IsFirstWord y found (rewritten_by y (take c.args.before y.rules) t))
     (λ (found : Option ℕ). (ms : List Named) (t : Term) → map (named_by y) terms ≡ ms ++ named t → (head t).bytes ≡ name_of y (Symbol c.args.symbol)
     → IsFirstWord y found (rewritten_by y (take c.args.before y.rules) t))
     (λ found h ms t e is. h t (subst (λ ls. AreLetters y ls t) (sym c.split_at.ensures.back)
-    (last_letters y ms t terms n c.requires.meant e (c.before_last.ensures.split y ms t e))) is) c.rewriting_symbol.ensures.first
+    (last_letters y ms t terms n c.requires.meant e (c.before_last.ensures.split y ms t e))) is) c.rewriting_term.ensures.first
+
+pub rewriting_term-requires-clause-meant : goal.rewriting_term-requires-clause-meant
+rewriting_term-requires-clause-meant c =
+    let y = c.args.self.now.checked.now.spec in
+    subst (λ ls. All (λ l. IsMeaning y l.meaning) ls) (sym c.split_at.ensures.back)
+    (All-drop (λ (l : Letter). IsMeaning y l.meaning) c.before_last.result c.args.terms.letters.now c.requires.meant)

@@ -4,7 +4,7 @@ use Rattle.std.proofs.lemmas.List.{length-drop, take_all}
 use Rattle.rec_syntax.specs.Parts.{words_of}
 use Rattle.rec_check.specs.Lookups.{argument_sorts}
 use Rattle.rec_check.specs.Named.{as_words}
-use Rattle.rec_check.specs.Walks.{misfits}
+use Rattle.rec_check.specs.Walks.{misfits_of}
 use Rattle.rec_check.proofs.scope.Scope.push_ill_sorted.Goals as goal
 
 pub returns : goal.returns
@@ -19,8 +19,8 @@ returns c =
       heads = c.in_ok-push.ensures.items ∙ ap (λ ws. ws ++ c.args.node.word ∷ []) c.truncate.ensures.items
           ∙ ap (λ (n : ℕ). take n heads ++ c.args.node.word ∷ []) same;
       found = c.in_ok-push_misfits.ensures
-          ∙ ap (λ ws. old ++ misfits y (as_words ws) (words_of c.args.self.now.syntax.now.source c.arguments-sorts.result.now))
+          ∙ ap (λ ws. old ++ misfits_of y (as_words ws) (words_of c.args.self.now.syntax.now.source c.arguments-sorts.result.now))
           (take_all (length given - base) (drop base given) (let l = length-drop base given in omega (arith, l)) ∙ ap (drop base) c.deref.ensures.value)
-          ∙ ap (λ ws. old ++ misfits y (as_words (drop base heads)) ws) c.arguments-sorts.ensures.sorts
-          ∙ ap (λ (n : ℕ). old ++ misfits y (as_words (drop n heads)) (argument_sorts y c.args.node.word.bytes.now)) same;
+          ∙ ap (λ ws. old ++ misfits_of y (as_words (drop base heads)) ws) c.arguments-sorts.ensures.sorts
+          ∙ ap (λ (n : ℕ). old ++ misfits_of y (as_words (drop n heads)) (argument_sorts y c.args.node.word.bytes.now)) same;
     }

@@ -1,6 +1,6 @@
 use Rattle.std.proofs.Common.{refl, ap, subst, []}
 use Rattle.rx_term.proofs.KeepLemmas.{Keeps-refl}
-use Rattle.rec_engine.specs.declared.pace.Pace.{Pace}
+use Rattle.rec_engine.specs.declared.heap.pace.Pace.{Pace}
 use Rattle.rec_engine.specs.Turn.{Ready}
 use Rattle.rec_engine.proofs.KnownConstantLemmas.{known-same}
 use Rattle.rec_engine.proofs.StayLemmas.{ready-kept}

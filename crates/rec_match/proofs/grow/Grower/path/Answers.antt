@@ -8,7 +8,7 @@ use Rattle.rec_match.proofs.PathLemmas.{row_task, can_path, path_tree}
 use Rattle.rec_match.proofs.TaskLemmas.{steps_more}
 use Rattle.rec_match.proofs.grow.Grower.path.Goals as goal
 
--- codes that were put behind none, the first one last
+-- codes that were put after none, the first one last
 turned_back : (values none rest codes own : List Code) → values ≡ [] → none ≡ [] → rest ≡ none ++ reverse codes → codes ≡ own → values ++ reverse rest ≡ own
 turned_back values none rest codes own ev en er eo = ap (λ xs. xs ++ reverse rest) ev ∙ ap reverse (er ∙ ap (λ xs. xs ++ reverse codes) en)
     ∙ reverse-reverse codes ∙ eo

@@ -13,7 +13,7 @@ use Rattle.rec_match.proofs.GrownLemmas.{whole_rows}
 use Rattle.rec_match.proofs.TaskLemmas.{goes_more}
 use Rattle.rec_match.proofs.grow.Grower.trees_of.Goals as goal
 
--- a root that is there stands for all rows
+-- a root that is there represents all rows
 one_tree : (y : Spec) (ns : List ℕ) (ps : Parts) (f g : Forest) (s : ℕ → State) (width : ℕ) (rows : List Row) (root : ℕ) (roots : List ℕ)
     → TreeGoesOn y ns ps f s width rows g root → root ≢ 0 → roots ≡ root ∷ [] → TreesGoOn y ns ps f s width rows g roots
 one_tree y ns ps f g s width rows root roots t some e =

@@ -1,4 +1,4 @@
-use Rattle.std.proofs.Common.{◌≡◌, ◌+◌, ◌<◌, ◌≤◌, ◌^◌, ℕ, List, IsSome, None, Some, ap, arith, drop, length, subst, sym, ◌∙◌}
+use Rattle.std.proofs.Common.{◌≡◌, ◌+◌, ◌<◌, ◌≤◌, ◌^◌, ℕ, List, IsSome, None, Some, ap, arith, drop, length, refl, subst, sym, ◌∙◌}
 use Rattle.std.specs.Prelude.{codes, is_some, ◌++◌}
 use Rattle.std.specs.Io.KnownBytes.{Appends}
 use Rattle.rx_term.specs.Kinds.{HasKind}
@@ -18,10 +18,17 @@ use Rattle.rx_run.specs.Run.{StopsAfter}
 use Rattle.rec_run.proofs.EvaluatedLemmas.{front-line, held_no_ends, lines_stopped_after, fault_after-same, line_lacks, same_engine_both}
 use Rattle.rec_run.proofs.GivenListLemmas.{FrontAt, fewer_items, front_stays, front_there, no_front, others_later}
 use Rattle.rx_run.proofs.LineFrontLemmas.{appends_all, appends_more, lines_of}
-use Rattle.rec_run.proofs.EvaluatedLemmas.{after_read, after_write}
-use Rattle.rec_run.specs.Depth.{unbounded_fault, unbounded_line_fault}
-use Rattle.rec_run.specs.declared.spec.lines.LineFault.{LineFault}
-use Rattle.rec_run.proofs.DepthLemmas.{after-deep, after-told}
+use Rattle.rec_run.proofs.EvaluatedLemmas.{after_reports, no_reader}
+use Rattle.rx_run.specs.declared.ending.RunFault.{RunFault}
+use Rattle.rec_run.proofs.DepthLemmas.{after-deep, depth-line}
+use Rattle.rec_run.specs.Depth.{KeepsDepth}
+use Rattle.std.proofs.Common.{get_or}
+use Rattle.std.specs.Prelude.{unwrap_or}
+use Rattle.rec_run.specs.GivenTerms.{item_at}
+use Rattle.rec_run.specs.Output.{given_task, is_limited}
+use Rattle.rec_run.proofs.LimitLineLemmas.{count-all, count-more, one-line}
+use Rattle.rec_run.specs.Reports.{value_report}
+use Rattle.rec_run.proofs.ReportLemmas.{told-all, told-more}
 use Rattle.rec_run.proofs.spec.lines.write_given_lines.Goals as goal
 
 -- the term whose line is next
@@ -45,18 +52,26 @@ returns-in_default g c =
     record {
       same = c.loop-i.invariant.same;
       keeps = c.loop-i.invariant.keeps;
-      ok = appends_all (given_text c.args.engine.now.spec (shown_of c.args.settings) c.args.settings.options.steps) us c.loop-i.i _ _ all
+      ok = appends_all (given_text c.args.engine.now.spec (shown_of c.args.run.settings) c.args.run.settings.options.steps) us c.loop-i.i _ _ all
           c.loop-i.invariant.written;
       err = tt;
       room = tt;
       deep = tt;
-      same_output = c.loop-i.invariant.same_output;
-      cause = c.loop-i.invariant.writable;
-      no_reader = tt;
+      reports = ((c.loop-i.invariant.same_output, c.loop-i.invariant.refused), refl);
+      ready = c.loop-i.invariant.ready;
+      told = λ source ready. told-all (λ u. value_report g.S.Reporter.says source c.args.engine.now.spec c.args.run.settings.options.steps (given_task u)) us
+          c.loop-i.i (g.S.Reporter.told c.args.observer.now.reporter) (g.S.Reporter.told c.loop-i.observer.reporter) all (c.loop-i.invariant.told source ready);
+      limits = count-all (λ u. is_limited c.args.engine.now.spec c.args.run.settings.form c.args.run.settings.options.steps (given_task u)) us c.loop-i.i c.loop-i.limits all
+          c.loop-i.invariant.limits;
+      few = omega (arith, c.loop-i.invariant.few);
+      bound =
+          let low = c.loop-i.invariant.low in
+          let e : c.loop-i.i ≡ length us = omega (arith, all, low) in
+          subst (λ k. KeepsDepth k c.args.run.settings.depth c.args.engine.now c.loop-i.engine) e c.loop-i.invariant.bound;
     }
 
-pub write_evaluation_observed-requires-clause-given : goal.write_evaluation_observed-requires-clause-given
-write_evaluation_observed-requires-clause-given g c =
+pub write_evaluation-requires-clause-given : goal.write_evaluation-requires-clause-given
+write_evaluation-requires-clause-given g c =
     let us = given_at (g.B.TermBank.store c.args.engine.now.bank) c.args.list in
     let next = next_term g.B.TermBank.store c.args.engine.now.spec _ _ _ us c.loop-i.rest c.head-term.result c.loop-i.i c.bank-in-loop-i.ensures
     c.bank-in-loop-i-2.ensures c.requires.protected.holds.kept c.loop-i.invariant.left c.in-Cons.ensures c.head-term.ensures in
@@ -67,37 +82,37 @@ write_evaluation_observed-requires-clause-given g c =
           subst (λ z. IsGround z next.front.tree) (sym c.loop-i.invariant.same.spec) next.front.is_ground;
     }
 
-pub write_evaluation_observed-requires-clause-stays : goal.write_evaluation_observed-requires-clause-stays
-write_evaluation_observed-requires-clause-stays g c =
+pub write_evaluation-requires-clause-stays : goal.write_evaluation-requires-clause-stays
+write_evaluation-requires-clause-stays g c =
     let y = c.args.engine.now.spec in
     let us = given_at (g.B.TermBank.store c.args.engine.now.bank) c.args.list in
     let next = next_term g.B.TermBank.store y _ _ _ us c.loop-i.rest c.head-term.result c.loop-i.i c.bank-in-loop-i.ensures c.bank-in-loop-i-2.ensures
     c.requires.protected.holds.kept c.loop-i.invariant.left c.in-Cons.ensures c.head-term.ensures in
     front_stays y (g.B.TermBank.store c.args.engine.now.bank) (g.B.TermBank.store c.loop-i.engine.bank) c.args.list c.loop-i.rest c.head-term.result
-    us c.loop-i.i c.args.settings.limits c.loop-i.invariant.keeps c.requires.protected.holds.held c.requires.protected.protected
+    us c.loop-i.i c.args.run.settings.limits c.loop-i.invariant.keeps c.requires.protected.holds.held c.requires.protected.protected
     c.loop-i.invariant.left next.front next.held
 
 pub returns-in-Err-clause-err : goal.returns-in-Err-clause-err
 returns-in-Err-clause-err g c =
     let y = c.args.engine.now.spec in
-    let n = c.args.settings.options.steps in
-    let f = given_text y (shown_of c.args.settings) n in
-    let why : LineFault = unbounded_line_fault c.in-Err.fault in
-    let end = unbounded_fault c.after.result in
+    let n = c.args.run.settings.options.steps in
+    let f = given_text y (shown_of c.args.run.settings) n in
+    let why : RunFault = c.in-Err.fault in
+    let end = c.after.result in
     let us = given_at (g.B.TermBank.store c.args.engine.now.bank) c.args.list in
     let next = next_term g.B.TermBank.store y _ _ _ us c.loop-i.rest c.head-term.result c.loop-i.i c.bank-in-loop-i.ensures c.bank-in-loop-i-2.ensures
     c.requires.protected.holds.kept c.loop-i.invariant.left c.in-Cons.ensures c.head-term.ensures in
-    let is = front-line y c.loop-i.engine.spec _ us _ c.head-term.result c.loop-i.i (shown_of c.args.settings) n next.front
+    let is = front-line y c.loop-i.engine.spec _ us _ c.head-term.result c.loop-i.i (shown_of c.args.run.settings) n next.front
     c.loop-i.invariant.same.spec next.held in
-    let few : n < 2 ^ 64 = omega (arith, c.args.settings.options.steps_in_range) in
+    let few : n < 2 ^ 64 = omega (arith, c.args.run.settings.options.steps_in_range) in
     let old = g.W.Write.contents c.args.out.now.writer.now in
-    let after = g.W.Write.contents c.write_evaluation_observed.new.out.writer.now in
+    let after = g.W.Write.contents c.write_evaluation.new.out.writer.now in
     let fault : end ≡ fault_after why (length y.terms + c.loop-i.i) =
     fault_after-same why (c.from-first.result + c.from.result) (length y.terms + c.loop-i.i) end
-    (after-told c.in-Err.fault _ c.after.result c.after.ensures) (omega arith) in
+    c.after.ensures (omega arith) in
     subst (λ stop. StopsAfter (length y.terms) stop (lines_of f us) old after) (sym fault)
-    (lines_stopped_after why (length y.terms) f us c.loop-i.i (list_of none) _ _ _
-    (held_no_ends y (g.B.TermBank.store c.args.engine.now.bank) c.args.list (shown_of c.args.settings) n few
+    (lines_stopped_after why (length y.terms) f us c.loop-i.i (list_of none) _ _ _ (no_reader c.in-Err.fault c.in-Err.ensures.reports.1)
+    (held_no_ends y (g.B.TermBank.store c.args.engine.now.bank) c.args.list (shown_of c.args.run.settings) n few
     (g.met.B.TermBank.sound c.args.engine.now.bank) c.requires.protected.holds) next.front.low c.loop-i.invariant.written
     (subst (λ text. AppendsFront (due_before why text) (g.W.Write.contents c.loop-i.out.writer.now) after) is c.in-Err.ensures.err))
 
@@ -109,9 +124,9 @@ returns-in-Err-clause-keeps g c = Keeps-trans c.loop-i.invariant.keeps c.in-Err.
 
 pub returns-in-Err-clause-room : goal.returns-in-Err-clause-room
 returns-in-Err-clause-room g c =
-    let e = c.write_evaluation_observed.new.engine in
-    line_lacks (g.B.TermBank.store e.bank) e.work e.memo (unbounded_line_fault c.in-Err.fault) _ (unbounded_fault c.after.result)
-    (after-told c.in-Err.fault _ c.after.result c.after.ensures) c.in-Err.ensures.room
+    let e = c.write_evaluation.new.engine in
+    line_lacks (g.B.TermBank.store e.bank) e.work e.memo c.in-Err.fault _ c.after.result
+    c.after.ensures c.in-Err.ensures.room
 
 pub tail-rest-requires : goal.tail-rest-requires
 tail-rest-requires g c =
@@ -126,11 +141,11 @@ tail-rest-requires g c =
 pub loop-i-preserved : goal.loop-i-preserved
 loop-i-preserved g c =
     let y = c.args.engine.now.spec in
-    let n = c.args.settings.options.steps in
+    let n = c.args.run.settings.options.steps in
     let us = given_at (g.B.TermBank.store c.args.engine.now.bank) c.args.list in
     let next = next_term g.B.TermBank.store y _ _ _ us c.loop-i.rest c.head-term.result c.loop-i.i c.bank-in-loop-i.ensures c.bank-in-loop-i-2.ensures
     c.requires.protected.holds.kept c.loop-i.invariant.left c.in-Cons.ensures c.head-term.ensures in
-    let is = front-line y c.loop-i.engine.spec _ us _ c.head-term.result c.loop-i.i (shown_of c.args.settings) n next.front
+    let is = front-line y c.loop-i.engine.spec _ us _ c.head-term.result c.loop-i.i (shown_of c.args.run.settings) n next.front
     c.loop-i.invariant.same.spec next.held in
     let others = others_later y _ _ _ c.args.list _ us c.loop-i.i c.loop-i.invariant.keeps c.in-Ok.ensures.keeps c.requires.protected.holds.held
     c.requires.protected.protected c.loop-i.invariant.left next.front in
@@ -139,11 +154,38 @@ loop-i-preserved g c =
       keeps = Keeps-trans c.loop-i.invariant.keeps c.in-Ok.ensures.keeps;
       left = subst (λ b. tree_at (g.B.TermBank.store b) c.tail-rest.result ≡ part_at tail_of (g.B.TermBank.store b) c.loop-i.rest)
           c.bank-in-loop-i-3.ensures c.tail-rest.ensures ∙ others;
-      written = appends_more (given_text y (shown_of c.args.settings) n) us c.loop-i.i (list_of none) _ _ _ next.front.low c.loop-i.invariant.written
-          (subst (λ text. Appends (g.W.Write.contents c.loop-i.out.writer.now) (g.W.Write.contents c.write_evaluation_observed.new.out.writer.now)
+      written = appends_more (given_text y (shown_of c.args.run.settings) n) us c.loop-i.i (list_of none) _ _ _ next.front.low c.loop-i.invariant.written
+          (subst (λ text. Appends (g.W.Write.contents c.loop-i.out.writer.now) (g.W.Write.contents c.write_evaluation.new.out.writer.now)
           (text ++ codes "\n")) is c.in-Ok.ensures.ok);
-      writable = c.in-Ok.ensures.cause;
-      same_output = c.in-Ok.ensures.same_output ∙ c.loop-i.invariant.same_output;
+      refused = c.in-Ok.ensures.reports.0.1 ∙ c.loop-i.invariant.refused;
+      same_output = c.in-Ok.ensures.reports.0.0 ∙ c.loop-i.invariant.same_output;
+      ready = λ source ready. subst (λ (z : Spec). g.S.Reporter.is_ready c.loop-i.observer.reporter source z
+          → g.S.Reporter.is_ready c.write_evaluation.new.observer.reporter source z) c.loop-i.invariant.same.spec (c.in-Ok.ensures.ready source)
+          (c.loop-i.invariant.ready source ready);
+      told = λ source ready.
+          let says = g.S.Reporter.says in
+          let told = g.S.Reporter.told in
+          let u = get_or us c.loop-i.i (list_of none) in
+          let w = g.B.TermBank.store c.loop-i.engine.bank in
+          let here : item_at w c.head-term.result ≡ u = ap (λ o. unwrap_or o (list_of none)) next.held ∙ sym next.front.got in
+          let more = subst (λ (z : Spec). g.S.Reporter.is_ready c.loop-i.observer.reporter source z
+          → told c.write_evaluation.new.observer.reporter ≡ told c.loop-i.observer.reporter ++ value_report says source z n
+          (given_task (item_at w c.head-term.result))) c.loop-i.invariant.same.spec (c.in-Ok.ensures.told source)
+          (c.loop-i.invariant.ready source ready) in
+          told-more (λ u. value_report says source y n (given_task u)) us c.loop-i.i (list_of none) (told c.args.observer.now.reporter)
+          (told c.loop-i.observer.reporter) (told c.write_evaluation.new.observer.reporter) next.front.low (c.loop-i.invariant.told source ready)
+          (more ∙ ap (λ t. told c.loop-i.observer.reporter ++ value_report says source y n (given_task t)) here);
+      few = omega (arith, one-line c.in-Ok.limited, c.from-limits.ensures, c.loop-i.invariant.few);
+      low = (let low = next.front.low in omega (arith, low));
+      bound = depth-line c.loop-i.i _ _ _ c.in-Ok.ensures.bound;
+      limits =
+          let w = g.B.TermBank.store c.loop-i.engine.bank in
+          let u = get_or us c.loop-i.i (list_of none) in
+          let here : item_at w c.head-term.result ≡ u = ap (λ o. unwrap_or o (list_of none)) next.held ∙ sym next.front.got in
+          count-more (λ u. is_limited y c.args.run.settings.form n (given_task u)) us c.loop-i.i (list_of none) c.loop-i.limits _ c.in-Ok.limited next.front.low
+          c.loop-i.invariant.limits c.from-limits.ensures
+          (subst (λ z. c.in-Ok.limited ≡ is_limited z c.args.run.settings.form n (given_task (item_at w c.head-term.result))) c.loop-i.invariant.same.spec c.in-Ok.ensures.limit
+          ∙ ap (λ t. is_limited y c.args.run.settings.form n (given_task t)) here);
     }
 
 pub returns-clause-ok : goal.returns-clause-ok
@@ -154,16 +196,59 @@ returns-clause-ok g c =
     (fewer_items (g.B.TermBank.store c.args.engine.now.bank) c.args.list us (g.met.B.TermBank.sound c.args.engine.now.bank)
     c.requires.protected.holds.held) in
     let all : length us ≤ c.loop-i.i = omega (arith, short) in
-    appends_all (given_text c.args.engine.now.spec (shown_of c.args.settings) c.args.settings.options.steps) us c.loop-i.i _ _ all c.loop-i.invariant.written
+    appends_all (given_text c.args.engine.now.spec (shown_of c.args.run.settings) c.args.run.settings.options.steps) us c.loop-i.i _ _ all c.loop-i.invariant.written
 
-pub returns-in-Err-clause-cause : goal.returns-in-Err-clause-cause
-returns-in-Err-clause-cause g c = λ is. c.in-Err.ensures.cause
-    (after_write (unbounded_line_fault c.in-Err.fault) _ (unbounded_fault c.after.result) (after-told c.in-Err.fault _ c.after.result c.after.ensures) is)
-
-pub returns-in-Err-clause-no_reader : goal.returns-in-Err-clause-no_reader
-returns-in-Err-clause-no_reader g c = after_read (unbounded_line_fault c.in-Err.fault) _ (unbounded_fault c.after.result)
-    (after-told c.in-Err.fault _ c.after.result c.after.ensures)
+pub returns-in-Err-clause-reports : goal.returns-in-Err-clause-reports
+returns-in-Err-clause-reports g c = after_reports c.args.out.now c.loop-i.out c.write_evaluation.new.out c.in-Err.fault _ c.after.result c.after.ensures
+    c.loop-i.invariant.same_output c.loop-i.invariant.refused c.in-Err.ensures.reports
 
 pub returns-in-Err-clause-deep : goal.returns-in-Err-clause-deep
-returns-in-Err-clause-deep g c = after-deep c.in-Err.fault _ c.after.result c.after.ensures c.write_evaluation_observed.new.engine.waiting
-    c.args.settings.depth c.in-Err.ensures.deep
+returns-in-Err-clause-deep g c = after-deep c.in-Err.fault _ c.after.result c.after.ensures c.write_evaluation.new.engine.waiting
+    c.args.run.settings.depth c.in-Err.ensures.deep
+
+pub write_evaluation-requires-clause-ready : goal.write_evaluation-requires-clause-ready
+write_evaluation-requires-clause-ready g c =
+    let source = c.requires.ready.0 in (
+      source,
+      subst (λ (z : Spec). g.S.Reporter.is_ready c.loop-i.observer.reporter source z) (sym c.loop-i.invariant.same.spec)
+          (c.loop-i.invariant.ready source c.requires.ready.1),
+    )
+
+pub returns-in-Err-clause-ready : goal.returns-in-Err-clause-ready
+returns-in-Err-clause-ready g c = λ source ready.
+    subst (λ (z : Spec). g.S.Reporter.is_ready c.loop-i.observer.reporter source z
+    → g.S.Reporter.is_ready c.write_evaluation.new.observer.reporter source z) c.loop-i.invariant.same.spec (c.in-Err.ensures.ready source)
+    (c.loop-i.invariant.ready source ready)
+
+pub returns-clause-told : goal.returns-clause-told
+returns-clause-told g c =
+    let us = given_at (g.B.TermBank.store c.args.engine.now.bank) c.args.list in
+    let short : length us < cells (g.B.TermBank.store c.bank.result.now) =
+    subst (λ b. length us < cells (g.B.TermBank.store b)) (sym c.bank.ensures)
+    (fewer_items (g.B.TermBank.store c.args.engine.now.bank) c.args.list us (g.met.B.TermBank.sound c.args.engine.now.bank)
+    c.requires.protected.holds.held) in
+    let all : length us ≤ c.loop-i.i = omega (arith, short) in
+    λ source ready. told-all (λ u. value_report g.S.Reporter.says source c.args.engine.now.spec c.args.run.settings.options.steps (given_task u)) us
+    c.loop-i.i (g.S.Reporter.told c.args.observer.now.reporter) (g.S.Reporter.told c.loop-i.observer.reporter) all (c.loop-i.invariant.told source ready)
+
+pub returns-clause-limits : goal.returns-clause-limits
+returns-clause-limits g c =
+    let us = given_at (g.B.TermBank.store c.args.engine.now.bank) c.args.list in
+    let short : length us < cells (g.B.TermBank.store c.bank.result.now) =
+    subst (λ b. length us < cells (g.B.TermBank.store b)) (sym c.bank.ensures)
+    (fewer_items (g.B.TermBank.store c.args.engine.now.bank) c.args.list us (g.met.B.TermBank.sound c.args.engine.now.bank)
+    c.requires.protected.holds.held) in
+    let all : length us ≤ c.loop-i.i = omega (arith, short) in
+    count-all (λ u. is_limited c.args.engine.now.spec c.args.run.settings.form c.args.run.settings.options.steps (given_task u)) us c.loop-i.i c.loop-i.limits all
+    c.loop-i.invariant.limits
+
+pub returns-clause-bound : goal.returns-clause-bound
+returns-clause-bound g c =
+    let us = given_at (g.B.TermBank.store c.args.engine.now.bank) c.args.list in
+    let short : length us < cells (g.B.TermBank.store c.bank.result.now) =
+    subst (λ b. length us < cells (g.B.TermBank.store b)) (sym c.bank.ensures)
+    (fewer_items (g.B.TermBank.store c.args.engine.now.bank) c.args.list us (g.met.B.TermBank.sound c.args.engine.now.bank)
+    c.requires.protected.holds.held) in
+    let low = c.loop-i.invariant.low in
+    let e : c.loop-i.i ≡ length us = omega (arith, short, low) in
+    subst (λ k. KeepsDepth k c.args.run.settings.depth c.args.engine.now c.loop-i.engine) e c.loop-i.invariant.bound

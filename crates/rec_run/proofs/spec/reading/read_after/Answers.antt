@@ -3,20 +3,14 @@ use Rattle.rec_syntax.specs.Syntax.{Sourced}
 use Rattle.rec_run.specs.GivenTerms.{IsRefusal}
 use Rattle.rec_run.specs.Reading.{IsSpecReading}
 use Rattle.rx_run.specs.declared.refusal.Reading.{Reading}
-use Rattle.rec_run.proofs.GivenDueLemmas.{read_after_good, read_after_refusal}
-use Rattle.rx_run.proofs.PatternDueLemmas.{if_ok_map}
+use Rattle.rec_run.proofs.GivenDueLemmas.{refused_first}
 use Rattle.rec_run.proofs.spec.reading.read_after.Goals as goal
 
-pub returns-in-Refused-clause-due : goal.returns-in-Refused-clause-due
-returns-in-Refused-clause-due g c = λ v is.
-    read_after_refusal (g.B.TermBank.store c.args.bank.now) c.in-Refused.refusal _ v (subst (λ (r : Reading Sourced). IsSpecReading r v) c.in-Refused.is is)
+pub returns-in-Refused-clause-read : goal.returns-in-Refused-clause-read
+returns-in-Refused-clause-read g c = refused_first (g.B.TermBank.store c.args.bank.now) c.in-Refused.refusal c.args.first _ c.in-Refused.is
 
-pub returns-in-Good-clause-due : goal.returns-in-Good-clause-due
-returns-in-Good-clause-due g c =
-    if_ok_map c.read_terms.result _ _
-    (λ r h v is. read_after_good (g.B.TermBank.store c.read_terms.new.bank) c.in-Good.checked _ r h v
-    (subst (λ (z : Reading Sourced). IsSpecReading z v) c.in-Good.is is))
-    c.read_terms.ensures.due
+pub returns-in-Good-clause-read : goal.returns-in-Good-clause-read
+returns-in-Good-clause-read g c = rw c.in-Good.is c.read_terms.ensures.read
 
 pub returns-in-Good-clause-unread : goal.returns-in-Good-clause-unread
 returns-in-Good-clause-unread g c = λ v is refused.

@@ -6,7 +6,7 @@ use Rattle.rec_trace.specs.declared.lines.Spot.{Spot}
 use Rattle.rec_stuck.specs.Inner.Calls.{AreSpots, line_if}
 use Rattle.rec_stuck.specs.Inner.Visits.{reference}
 use Rattle.rec_stuck.proofs.AddLemmas.{got-at}
-use Rattle.rec_stuck.proofs.ReportLemmas.{told-all, told-more}
+use Rattle.rec_run.proofs.ReportLemmas.{told-all, told-more}
 use Rattle.rec_stuck.proofs.report.StuckReport.add_applications.Goals as goal
 
 pub loop-i-preserved : goal.loop-i-preserved

@@ -58,7 +58,7 @@ begun g c =
     new-stands y (g.B.TermBank.store c.none.new.engine.bank) c.new.result c.in_ok-steps.steps.items c.args.n c.deref.result.now term c.terms.ensures.kept
     (is-new (g.B.TermBank.store c.none.new.engine.bank) c.new.result c.of_steps.result c.in_ok-steps.steps c.in_ok-saved.saved c.args.n c.new.ensures.row
     c.new.ensures.saved c.new.ensures.left c.of_steps.ensures.steps c.of_steps.ensures.values c.of_steps.ensures.low of.kept of.none of.count)
-    (c.in_ok-steps.ensures y made.applied) letters
+    (c.in_ok-steps.ensures.row y made.applied) letters
 
 pub returns-clause-stands : goal.returns-clause-stands
 returns-clause-stands g c = subst (λ z. Stands z (g.B.TermBank.store c.none.new.engine.bank) c.new.result) c.checked.ensures

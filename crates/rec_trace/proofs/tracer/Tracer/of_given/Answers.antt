@@ -28,7 +28,7 @@ begun g c u spelled =
     new-stands y w c.new.result c.in_ok-steps.steps.items c.args.n c.args.letters.now (term_of u) good
     (is-new w c.new.result c.of_steps.result c.in_ok-steps.steps c.in_ok-saved.saved c.args.n c.new.ensures.row c.new.ensures.saved c.new.ensures.left
     c.of_steps.ensures.steps c.of_steps.ensures.values c.of_steps.ensures.low of.kept of.none of.count)
-    (c.in_ok-steps.ensures y (spelled-makes y good c.args.letters.now u spelled).applied) spelled.letters
+    (c.in_ok-steps.ensures.row y (spelled-makes y good c.args.letters.now u spelled).applied) spelled.letters
 
 pub returns-clause-stands : goal.returns-clause-stands
 returns-clause-stands g c = (begun g (goal.at.returns-clause-stands g c).After-new c.requires.0 c.requires.1).stands

@@ -7,7 +7,7 @@ use Rattle.rx_arena.proofs.RemovingLemmas.{besides-second, once, slot_in, before
 use Rattle.rx_arena.proofs.arena.Arena.chain_skip.Goals.{After-set_chain_next}
 use Rattle.rx_arena.proofs.arena.Arena.chain_skip.Goals as goal
 
--- where two slots stand in a chain
+-- if two slots are in a chain
 abbrev Row : ArenaState → ℕ → ℕ → ℕ → Type 0
 Row a c b s = (front : List ℕ) × (rest : List ℕ) × (chain_at a c ≡ front ++ b ∷ s ∷ rest)
 

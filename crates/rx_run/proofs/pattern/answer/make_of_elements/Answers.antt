@@ -1,7 +1,7 @@
 use Rattle.std.proofs.Common.{refl, Err, ap, is_some, sym, ◌∙◌}
 use Rattle.rx_pattern.specs.Filling.{filling}
+use Rattle.rx_run.specs.TermRuns.{due_at, term_line}
 use Rattle.rx_run.specs.PatternRuns.{made_due}
-use Rattle.rx_run.specs.Inner.PatternAnswers.{answer_due}
 use Rattle.rx_term.proofs.WalkLemmas.{trees_from-AllHeld}
 use Rattle.rx_run.proofs.PatternTermLemmas.{made_here}
 use Rattle.rx_run.proofs.pattern.answer.make_of_elements.Goals as goal
@@ -20,7 +20,7 @@ returns-in-Ok-clause-held g c =
 pub returns-in-Err-Kind-clause-due : goal.returns-in-Err-Kind-clause-due
 returns-in-Err-Kind-clause-due g c = λ ts h.
     let wrong = (c.in-Err-Kind.ensures.kind ts h c.in-Err-Kind.field-0-0).0 (ap Err c.in-Err-Kind.field-0-is) in
-    ap (answer_due (g.B.TermBank.store c.make.new.bank)) c.refused-in-Err-Kind.ensures ∙ ap made_due (sym wrong)
+    ap (due_at term_line (g.B.TermBank.store c.make.new.bank)) c.refused-in-Err-Kind.ensures ∙ ap made_due (sym wrong)
 
 pub returns-in-Err-Full-clause-fault : goal.returns-in-Err-Full-clause-fault
 returns-in-Err-Full-clause-fault g c =

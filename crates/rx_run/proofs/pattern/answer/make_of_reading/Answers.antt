@@ -1,7 +1,8 @@
 use Rattle.std.proofs.Common.{Some, subst}
 use Rattle.rx_term.specs.Tree.{Tree}
+use Rattle.rx_run.specs.TermRuns.{due_at, term_line}
 use Rattle.rx_run.specs.PatternRuns.{due_of_args}
-use Rattle.rx_run.specs.Inner.PatternAnswers.{IsPatternRead, answer_due}
+use Rattle.rx_run.specs.Inner.PatternAnswers.{IsPatternRead}
 use Rattle.rx_run.specs.declared.refusal.Reading.{Reading}
 use Rattle.rx_run.proofs.PatternDueLemmas.{good_both, if_ok_map, refused_both}
 use Rattle.rx_run.proofs.pattern.answer.make_of_reading.Goals as goal
@@ -13,6 +14,6 @@ returns-in-Refused-clause-due g c = λ text read.
 pub returns-in-Good-clause-due : goal.returns-in-Good-clause-due
 returns-in-Good-clause-due g c =
     if_ok_map c.make_of_text.result _ _
-    (λ answer h text read. good_both due_of_args (Some c.args.args.now) text c.in-Good.pattern
-    (answer_due (g.B.TermBank.store c.make_of_text.new.bank) answer) (subst (λ (r : Reading Tree). IsPatternRead text r) c.in-Good.is read) h)
+    (λ made h text read. good_both due_of_args (Some c.args.args.now) text c.in-Good.pattern
+    (due_at term_line (g.B.TermBank.store c.make_of_text.new.bank) made) (subst (λ (r : Reading Tree). IsPatternRead text r) c.in-Good.is read) h)
     c.make_of_text.ensures.due

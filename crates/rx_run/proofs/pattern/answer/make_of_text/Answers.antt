@@ -2,9 +2,8 @@ use Rattle.std.proofs.Common.{Some, subst}
 use Rattle.std.proofs.lemmas.Result.{IfErr-weaker}
 use Rattle.rx_term.specs.declared.Term.{Term}
 use Rattle.rx_text.specs.Verdict.{Verdict, IsVerdict}
-use Rattle.rx_run.specs.TermRuns.{IsReadingOf}
+use Rattle.rx_run.specs.TermRuns.{IsReadingOf, due_at, term_line}
 use Rattle.rx_run.specs.PatternRuns.{due_of_args}
-use Rattle.rx_run.specs.Inner.PatternAnswers.{answer_due}
 use Rattle.rx_run.specs.Refusals.{refusal_due}
 use Rattle.rx_run.specs.declared.ending.Source.TheVariants as source
 use Rattle.rx_run.specs.declared.refusal.Reading.{Reading}
@@ -26,8 +25,8 @@ returns-in-Good-clause-due g c =
     let v = subst (λ (r : Reading Term). (v : Verdict) × IsReadingOf source.Args w r v × IsVerdict c.args.args.now v) c.in-Good.is
     c.in_ok-refusal.ensures.read in
     if_ok_map c.make_of_term.result _ _
-    (λ answer h.
-    due_read (Some c.args.args.now) (answer_due (g.B.TermBank.store c.make_of_term.new.bank) answer) (due_of_args c.args.pattern.now) v.0 v.2
+    (λ made h.
+    due_read (Some c.args.args.now) (due_at term_line (g.B.TermBank.store c.make_of_term.new.bank) made) (due_of_args c.args.pattern.now) v.0 v.2
     (spelt_due (due_of_args c.args.pattern.now) source.Args w c.in-Good.t v.0 v.1 _ h))
     c.make_of_term.ensures.due
 

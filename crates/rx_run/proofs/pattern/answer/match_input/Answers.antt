@@ -4,6 +4,8 @@ use Rattle.rx_term.specs.Tree.{Tree}
 use Rattle.rx_term.specs.declared.Term.{Term}
 use Rattle.rx_pattern.specs.Matching.{matching}
 use Rattle.rx_run.specs.TermRuns.{IsGiven, due_of}
+use Rattle.rx_run.specs.Run.{RanOut}
+use Rattle.rx_run.specs.Streams.{is_read}
 use Rattle.rx_run.specs.PatternRuns.{match_lines}
 use Rattle.rx_run.specs.Inner.PatternAnswers.{answer_due}
 use Rattle.rx_run.specs.Refusals.{refusal_due}
@@ -12,7 +14,7 @@ use Rattle.rx_run.specs.declared.refusal.Reading.{Reading}
 use Rattle.rx_run.proofs.FaultLemmas.{unwritten_later}
 use Rattle.rx_run.proofs.PatternDueLemmas.{due_read, if_ok_map, spelt_due}
 use Rattle.rx_run.proofs.TermDueLemmas.{refused_due}
-use Rattle.rx_run.proofs.StreamLemmas.{read_ran_out}
+use Rattle.rx_run.proofs.ReportLemmas.{ran_out_no_read, read_still, returns_no}
 use Rattle.rx_run.proofs.pattern.answer.match_input.Goals as goal
 
 pub returns-in-Refused-clause-due : goal.returns-in-Refused-clause-due
@@ -39,7 +41,10 @@ returns-in-Good-clause-fault g c =
     let new = g.B.TermBank.store c.match_term.new.bank in
     IfErr-weaker c.match_term.result _ _ (λ f h. unwritten_later old mid new f c.in_ok-refusal.ensures.grows h) c.match_term.ensures.fault
 
-pub returns-in-Good-clause-cause : goal.returns-in-Good-clause-cause
-returns-in-Good-clause-cause g c =
-    read_ran_out c.read_term.new.input c.match_term.result (g.B.TermBank.store c.read_term.new.bank) (g.B.TermBank.store c.match_term.new.bank)
-    c.in_ok-refusal.ensures.cause c.match_term.ensures.fault
+pub returns-in-Good-clause-reports : goal.returns-in-Good-clause-reports
+returns-in-Good-clause-reports g c =
+    let mid = g.B.TermBank.store c.read_term.new.bank in
+    let new = g.B.TermBank.store c.match_term.new.bank in
+    let r = c.match_term.result in
+    read_still c.args.input.now c.read_term.new.input r (returns_no is_read (RanOut mid new) r (ran_out_no_read mid new) c.match_term.ensures.fault)
+    c.in_ok-refusal.ensures.reports

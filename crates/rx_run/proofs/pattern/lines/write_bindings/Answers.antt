@@ -13,8 +13,8 @@ returns-in_err-put-clause-err g c =
     if_err_at c.from_residual.result _ Write c.from_residual.ensures.1
     (stops_before Write (codes "yes\n") (flat_map (line_at w) c.args.bindings.now) _ _ (stops_write (codes "yes\n") _ _ c.in_err-put.ensures.front))
 
-pub write_line_to-requires-clause-held : goal.write_line_to-requires-clause-held
-write_line_to-requires-clause-held g c = AllHeld-at (g.B.TermBank.store c.args.bank.now) c.args.bindings.now c.loop-i.i _ c.requires.held c.loop-i-test.true
+pub write_line_to-requires : goal.write_line_to-requires
+write_line_to-requires g c = record { held = AllHeld-at (g.B.TermBank.store c.args.bank.now) c.args.bindings.now c.loop-i.i _ c.requires.held c.loop-i-test.true }
 
 pub returns-in_err-write_line_to-clause-err : goal.returns-in_err-write_line_to-clause-err
 returns-in_err-write_line_to-clause-err g c =

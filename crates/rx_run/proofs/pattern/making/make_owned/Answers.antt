@@ -1,9 +1,8 @@
 use Rattle.std.proofs.Common.{Some}
 use Rattle.rx_run.specs.PatternRuns.{IsMakeDue}
-use Rattle.rx_run.proofs.FaultLemmas.{reports_at_once}
+use Rattle.rx_run.proofs.FaultLemmas.{not_deep_at_once, reports_at_once}
 use Rattle.rx_run.proofs.ErrorLemmas.{if_err_at}
 use Rattle.rx_run.proofs.WholeRunLemmas.{breaks_unwritten}
-use Rattle.rx_run.proofs.StreamLemmas.{at_once_unwritten, write_on}
 use Rattle.rx_run.proofs.pattern.making.make_owned.Goals as goal
 
 pub returns-in_err-reading-clause-fault : goal.returns-in_err-reading-clause-fault
@@ -12,7 +11,7 @@ returns-in_err-reading-clause-fault g c =
     if_err_at c.from_residual.result _ f c.from_residual.ensures.1
     (breaks_unwritten (IsMakeDue c.args.pattern.now) (Some c.args.args.now) f _ (reports_at_once f c.in_err-reading.ensures.fault))
 
-pub returns-in_err-reading-clause-cause : goal.returns-in_err-reading-clause-cause
-returns-in_err-reading-clause-cause g c =
+pub returns-in_err-reading-clause-no_depth : goal.returns-in_err-reading-clause-no_depth
+returns-in_err-reading-clause-no_depth g c =
     let f = c.in_err-reading.field-0.0 in
-    write_on c.args.out.now c.from_residual.result f c.from_residual.ensures.1 (λ is. absurd (at_once_unwritten f c.in_err-reading.ensures.fault is))
+    if_err_at c.from_residual.result _ f c.from_residual.ensures.1 (not_deep_at_once f c.in_err-reading.ensures.fault)

@@ -1,4 +1,4 @@
--- What is reached stays, and all else is given back.
+-- What is reached stays, and all else is freed.
 use Rattle.std.proofs.Common.{sym, ◌∙◌}
 use Rattle.rx_shared.specs.Inner.Soundness.{bank-law}
 use Rattle.rx_sweep.proofs.HomingLemmas.{same_homed}

@@ -1,0 +1,2 @@
+-- Definitions that only proofs and contracts inside this crate use.
+pub mod Nodes

@@ -1,0 +1,90 @@
+-- What is found for a run's texts, from what the texts came to: what is told of their values, and
+-- how many limit lines they have.
+use Rattle.std.proofs.Common.{refl, sym, ap, subst}
+use Rattle.std.specs.Prelude.{ℕ, ◌≡◌, ◌++◌, List, [], Option, Some, None, IfOk, IfSome, OnOk, Result, Ok, Err}
+use Rattle.rx_term.specs.Store.{Store}
+use Rattle.rx_term.specs.Tree.{Tree}
+use Rattle.rx_term.specs.declared.Term.{Term as Reference}
+use Rattle.rec_syntax.specs.Syntax.{Sourced, Spec}
+use Rattle.rec_sorts.specs.SpecRules.{Verdict, Long, Grammar, Breaks, Good}
+use Rattle.rx_run.specs.declared.refusal.Reading.{Reading}
+use Rattle.rx_run.specs.declared.refusal.Reading.TheVariants as reading
+use Rattle.rx_run.specs.declared.refusal.Refusal.{Refusal}
+use Rattle.rec_run.specs.GivenTerms.{IsJobAfter, IsJobRead, IsTermsRead, given_by, job_alone_of, job_of, refused_terms}
+use Rattle.rec_run.specs.Output.{TermsVerdict, TooLong, Outside, BreaksTerms, GoodTerms, limit_lines}
+use Rattle.rec_run.specs.Reading.{IsSpecReading, KeepsText, refused_spec}
+use Rattle.rec_run.specs.Reports.{HasLimitLines, IsFoundAfter, IsFoundFor, Says, Tells, found_for_terms, job_found, job_limits, job_report, report_of}
+use Rattle.rec_run.specs.Run.{Texts}
+use Rattle.rec_run.specs.declared.options.ValueForm.{ValueForm}
+use Rattle.rec_run.specs.declared.spec.reading.Job.{Job}
+use Rattle.rec_run.specs.declared.spec.due.RunReport.{RunReport}
+
+module _ {A : Type 0} (none : A) (of : Spec → List Tree → A) where
+  -- a refused specification is all that counts
+  after-refusal : (v : Verdict) (r : Refusal) (terms : Option (List ℕ)) → refused_spec v ≡ Some r → IsFoundAfter none of v terms none
+  after-refusal Long r terms e = refl
+  after-refusal (Grammar at) r terms e = refl
+  after-refusal (Breaks f) r terms e = refl
+  after-refusal (Good y) r terms e = absurd (cc e)
+
+  -- a text of terms behind a good specification
+  refused-found : (y : Spec) (r : Refusal) (v : TermsVerdict) → refused_terms v ≡ Some r → none ≡ found_for_terms none of y v
+  refused-found y r TooLong e = refl
+  refused-found y r (Outside at) e = refl
+  refused-found y r (BreaksTerms number) e = refl
+  refused-found y r (GoodTerms ts) e = absurd (cc e)
+
+  terms-found : (w : Store) (checked : Sourced) (bytes : List ℕ) (r : Reading Reference) → IsTermsRead checked.spec w bytes r
+      → IsFoundAfter none of (Good checked.spec) (Some bytes) (job_found none of w (job_of checked r))
+  terms-found w checked bytes (reading.Refused r) (v, h, is) = (v, h, refused-found checked.spec r v is)
+  terms-found w checked bytes (reading.Good list) (v, h, is) = (v, h, ap (found_for_terms none of checked.spec) (sym is))
+
+  -- both texts
+  found-after : (w : Store) (given : Option (List ℕ)) (first : Reading Sourced) (r : Reading Job) (v : Verdict) → IsSpecReading first v
+      → IsJobAfter w given first r → IsFoundAfter none of v given (job_found none of w r)
+  found-after w given (reading.Refused q) r v is h =
+      subst (λ z. IsFoundAfter none of v given (job_found none of w z)) (sym h) (after-refusal v q given is)
+  found-after w None (reading.Good checked) r v is h =
+      subst (λ z. IsFoundAfter none of v None (job_found none of w z)) (sym h)
+      (subst (λ z. IsFoundAfter none of z None (of checked.spec [])) (sym is) refl)
+  found-after w (Some bytes) (reading.Good checked) r v is (t, k, e) =
+      subst (λ z. IsFoundAfter none of v (Some bytes) (job_found none of w z)) (sym e)
+      (subst (λ z. IsFoundAfter none of z (Some bytes) (job_found none of w (job_of checked t))) (sym is) (terms-found w checked bytes t k))
+
+  pub found-read : (w : Store) (texts : Texts) (r : Reading Job) → IsJobRead w texts r → IsFoundFor none of texts (job_found none of w r)
+  found-read w texts r (first, (v, h, is), kept, after) = (v, h, found-after w texts.terms first r v is after)
+
+-- a good specification keeps its text, so what is told of the values by the job is told by the text
+kept-source : (says : Says) (w : Store) (n : ℕ) (source : List ℕ) (given : Option (List ℕ)) (first : Reading Sourced) (r : Reading Job)
+    → KeepsText source first → IsJobAfter w given first r → job_report says w n r ≡ job_found [] (λ y ts. report_of says source y ts n) w r
+kept-source says w n source given (reading.Refused q) r kept h =
+    subst (λ z. job_report says w n z ≡ job_found [] (λ y ts. report_of says source y ts n) w z) (sym h) refl
+kept-source says w n source None (reading.Good checked) r kept h =
+    subst (λ z. job_report says w n z ≡ job_found [] (λ y ts. report_of says source y ts n) w z) (sym h)
+    (ap (λ s. report_of says s checked.spec [] n) kept)
+kept-source says w n source (Some bytes) (reading.Good checked) r kept (t, k, e) =
+    subst (λ z. job_report says w n z ≡ job_found [] (λ y ts. report_of says source y ts n) w z) (sym e) (by t)
+  where
+    by : (t : Reading Reference) → job_report says w n (job_of checked t) ≡ job_found [] (λ y ts. report_of says source y ts n) w (job_of checked t)
+    by (reading.Refused q) = refl
+    by (reading.Good list) = ap (λ s. report_of says s checked.spec (given_by w (Some list)) n) kept
+
+-- a run tells it
+pub tells-by : {A E : Type 0} (says : Says) (result : Result A E) (w : Store) (n : ℕ) (texts : Option Texts) (r : Reading Job) (old new : List ℕ)
+    → IfSome texts (λ t. IsJobRead w t r) → OnOk result (new ≡ old ++ job_report says w n r) → IfOk result (λ a. Tells says n texts old new)
+tells-by says (Err e) w n texts r old new h k = tt
+tells-by says (Ok a) w n None r old new h k = tt
+tells-by says (Ok a) w n (Some t) r old new h k = (
+  job_found [] (λ y ts. report_of says t.spec y ts n) w r,
+  found-read [] (λ y ts. report_of says t.spec y ts n) w t r h,
+  subst (λ told. new ≡ old ++ told) (kept-source says w n t.spec t.terms h.0 r h.2 h.3) k,
+)
+
+-- and so many of its lines are limit lines
+pub limits-by : {E : Type 0} (result : Result RunReport E) (w : Store) (form : ValueForm) (n : ℕ) (texts : Option Texts) (r : Reading Job)
+    → IfSome texts (λ t. IsJobRead w t r) → IfOk result (λ report. report.limit_lines ≡ job_limits w form n r)
+    → IfOk result (λ report. HasLimitLines form n texts report.limit_lines)
+limits-by (Err e) w form n texts r h k = tt
+limits-by (Ok report) w form n None r h k = tt
+limits-by (Ok report) w form n (Some t) r h k =
+    subst (IsFoundFor 0 (λ y ts. limit_lines y ts form n) t) (sym k) (found-read 0 (λ y ts. limit_lines y ts form n) w t r h)

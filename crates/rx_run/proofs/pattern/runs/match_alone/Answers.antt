@@ -1,8 +1,0 @@
-use Rattle.std.proofs.Common.{refl}
-use Rattle.rx_run.specs.PatternRuns.{IsMatchDue}
-use Rattle.rx_run.proofs.WholeRunLemmas.{breaks_unwritten}
-use Rattle.rx_run.proofs.pattern.runs.match_alone.Goals as goal
-
-pub returns-in-Err-clause-fault : goal.returns-in-Err-clause-fault
-returns-in-Err-clause-fault g c = breaks_unwritten (IsMatchDue c.args.pattern.now) (g.R.Read.remaining c.args.input.now.reader.now) c.in-Err.fault _
-    (rw c.in-Err.ensures.fault refl)

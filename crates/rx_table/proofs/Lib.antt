@@ -1,0 +1,9 @@
+pub mod SubtermLemmas
+pub mod TableLemmas
+pub mod ShortLemmas
+pub mod WalkLemmas
+pub mod MadeLemmas
+pub mod EntryLemmas
+pub mod SharedLemmas
+pub mod OpenedLemmas
+pub mod OpeningLemmas

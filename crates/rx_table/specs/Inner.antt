@@ -1,0 +1,6 @@
+-- Definitions that only proofs and contracts inside this crate use.
+pub mod Walk
+pub mod Shared
+pub mod Made
+pub mod Opening
+pub mod Faults

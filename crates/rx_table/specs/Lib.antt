@@ -1,0 +1,4 @@
+pub mod Table
+pub mod Opened
+pub mod Laws
+pub mod Inner
