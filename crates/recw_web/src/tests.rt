@@ -167,7 +167,7 @@ fn checks_are_written(rt: HostRuntime) {
     );
     assert_eq!(rt; (status, told.has_place), (1, false));
     assert!(rt; room.starts_with(b"b:1:18: error: syntax error in the specification [G]\n"));
-    assert_eq!(rt; told.length, 42);
+    assert_eq!(rt; told.length, 53);
 }
 
 #[test]
