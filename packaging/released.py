@@ -209,11 +209,11 @@ class Shared(Archive):
 
 
 class Page(Product):
-    path, how, crate = "web/out/recw.html", "web/build, or .ci/run", "recw_web"
+    path, how, crate = "web/out/recw.html", "web/build, or .ci/run", "recw_wasm"
     further = (
         *["web/build", "web/*.js", "web/page.*", "web/heap.c", "web/helpers.c", ".ci/archive.py"],
         *["editors/vscode/rec.tmLanguage.json", "examples/*.rec", "examples/*.trm", "examples/*/*.rec"],
-        "crates/recw_words/src/refusals.rt",
+        "crates/recw_cli/src/refusals.rt",
     )
     by = ("clang", "wasm-opt")
 

@@ -140,7 +140,7 @@ def try_given(at):
 def try_callers():
     """Both banks by themselves, which search and grow in other ways."""
     if not os.path.exists(CALLER):
-        print(f"not tried: breadth of banks: {CALLER} is not there; rt run in crates/hostile builds it")
+        print(f"not tried: breadth of banks: {CALLER} is not there; rt run in crates/test_alloc_failure builds it")
         return
     due = (0, "ready\ndone\n20000 cells\nroom for them\n", "")
     for kind in ("plain", "shared"):

@@ -17,24 +17,30 @@ const register = (name) => (language, provider, legend) => {
   provided[name] = { language, provider, legend };
   return { dispose() {} };
 };
-let text = fs.readFileSync(spec, 'utf8'), found = null;
+let text = fs.readFileSync(spec, 'utf8'), found = null, related = null;
 const uri = { toString: () => 'file:///spec.rec' };
 const document = { uri, languageId: 'rec', version: 1, getText: () => text };
 const other = { ...document, languageId: 'c', uri: { toString: () => 'file:///c' } };
 const edits = [];
 const collection = {
-  set: (at, list) => { found = list.map((it) => [it.code, it.severity, it.range]); },
+  set: (at, list) => {
+    found = list.map((it) => [it.code, it.severity, it.range]);
+    related = list.map((it) => it.relatedInformation.map((one) => [one.message, one.location.range.start]));
+  },
   clear() {},
   dispose() {},
 };
 const kinds = ['Hover', 'Definition', 'Reference', 'DocumentHighlight', 'Rename', 'DocumentSymbol', 'CompletionItem'];
-kinds.push('CodeLens', 'DocumentSemanticTokens');
+kinds.push('CodeLens', 'DocumentSemanticTokens', 'SignatureHelp', 'CodeActions');
 const vscode = {
   Position, Range,
   Location: record('uri', 'range'), Hover: record('contents', 'range'), MarkdownString: record('value'),
   DocumentHighlight: record('range', 'kind'), Diagnostic: record('range', 'message', 'severity'),
   DocumentSymbol: record('name', 'detail', 'kind', 'range', 'selectionRange'), CodeLens: record('range', 'command'),
   CompletionItem: record('label', 'kind'),
+  DiagnosticRelatedInformation: record('location', 'message'), SignatureHelp: record(),
+  SignatureInformation: record('label', 'documentation'), ParameterInformation: record('label'),
+  CodeAction: record('title', 'kind'), CodeActionKind: { QuickFix: 'quickfix' },
   SemanticTokens: record('data'), SemanticTokensLegend: record('types', 'modifiers'),
   WorkspaceEdit: class { replace(at, range, now) { edits.push([range.start.line, range.start.character, now]); } },
   Uri: { parse: (it) => it },
@@ -74,13 +80,16 @@ async function until(holds) {
   out.highlights = (await of('DocumentHighlight').provideDocumentHighlights(document, at, token)).map((it) => it.kind);
   out.prepared = (await of('Rename').prepareRename(document, at, token)).placeholder;
   await of('Rename').provideRenameEdits(document, at, 'add', token);
-  out.edits = edits;
+  out.edits = edits.splice(0);
   out.refused = await of('Rename').provideRenameEdits(document, at, 'z', token).catch((error) => error.message);
   const symbols = await of('DocumentSymbol').provideDocumentSymbols(document, token);
   out.symbols = symbols.map((it) => [it.name, it.children.length]);
   const completion = await of('CompletionItem').provideCompletionItems(document, at, token);
   out.completion = completion.map((it) => [it.label, it.kind]);
   out.lenses = (await of('CodeLens').provideCodeLenses(document, token)).map((it) => it.command.title);
+  const { signatures: [help], activeParameter } =
+    await of('SignatureHelp').provideSignatureHelp(document, new Position(11, 12), token);
+  out.help = [help.label, help.documentation, help.parameters.map((it) => it.label), activeParameter];
   out.tokens = (await of('DocumentSemanticTokens').provideDocumentSemanticTokens(document, token)).data.length;
   found = null;
   const change = { range: new Range(11, 2, 11, 6), text: 'pls' };
@@ -89,6 +98,16 @@ async function until(holds) {
   listeners.change({ document, contentChanges: [change] });
   await until(() => found && found.length);
   out.second = found;
+  const actions = await of('CodeActions').provideCodeActions(document, new Range(11, 3, 11, 3), {}, token);
+  out.actions = actions.map((it) => [it.title, it.kind]);
+  out.mended = edits.slice(0, 1);
+  const closed = text;
+  text = text.replace('z,Y) ->', 'z,Y ->');
+  found = null;
+  listeners.change({ document, contentChanges: [{ range: new Range(10, 10, 10, 11), text: '' }] });
+  await until(() => found && found.length);
+  out.related = related[0];
+  text = closed;
   client.server.process.kill();
   found = null;
   await until(() => found && found.length);

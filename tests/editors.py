@@ -9,10 +9,12 @@ import json
 import os
 import re
 import shutil
+import sys
 import tempfile
 
 from common import TOP, done, run, same
 from language_server import try_server
+from new_user import try_new_user
 from prompt_session import try_prompt
 
 SECTIONS = {"REC-SPEC", "SORTS", "CONS", "OPNS", "VARS", "RULES", "EVAL", "END-SPEC"}
@@ -310,6 +312,8 @@ def main():
     with tempfile.TemporaryDirectory() as room:
         check_lines(room)
         try_server(room)
+        if len(sys.argv) > 1:
+            try_new_user()
         try_prompt(room)
         for name, text in texts.items():
             check(name, text, grammar.scopes(text), "grammar")

@@ -18,7 +18,8 @@ from common import TOP, done, same, text_of
 
 LIST = "tests/growths.txt"
 # Programs and crates of tests report to no caller.
-OTHERS = {"hostile", "recw", "recw_words", "rows", "run_rows", "store_rows", "uses"}
+OTHERS = {"example_client", "recw", "recw_cli"}
+OTHERS |= {f"test_{kind}" for kind in ("alloc_failure", "engine", "rec", "runs", "store", "text")}
 TYPES = re.compile(r"(Result|From|Fault)<[^={]*AllocError>+")
 # The error, the reply line of a session, the flag of a request that did not fit, and the error of a call that is
 # dropped, whatever is reported in its place.

@@ -15,7 +15,7 @@
 | errors | each error of a read and of a write |
 | streams | each read and each write of evaluations, reports, traces, conversations, checks and runs on terms fails |
 | memory | each request for memory of the program |
-| crates | each request for memory of single calls, by the program of crates/hostile; that their blocks go back |
+| crates | each request for memory of single calls, by the program of crates/test_alloc_failure; that their blocks go back |
 
 The last line is `N passed, M failed`. The last four parts trace the program, for which they need Linux on x86-64;
 their runs stand side by side on the processors that this process may use.

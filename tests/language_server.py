@@ -186,7 +186,7 @@ def try_capabilities():
     same("server: positions", "utf-16", found["positionEncoding"])
     same("server: synchronisation", {"openClose": True, "change": 2}, found["textDocumentSync"])
     named = ["hover", "definition", "references", "documentHighlight", "rename", "documentSymbol", "completion"]
-    named += ["codeLens", "semanticTokens"]
+    named += ["codeLens", "semanticTokens", "signatureHelp", "codeAction"]
     same("server: requests", [], [it for it in named if f"{it}Provider" not in found])
     code = client.ask("textDocument/formatting", {"textDocument": {"uri": URI}})["error"]["code"]
     same("server: a request that it has not", -32601, code)
@@ -317,10 +317,11 @@ def completed(client, line, character):
 
 def try_completion(client):
     found = completed(client, 11, 7)
-    names = {"z", "s", "plus", "X", "Y", "if", "and-if", "EVAL", "END-SPEC"}
-    same("server: completion in a rule", names, set(found))
-    same("server: completion of an argument", (": Nat Nat -> Nat", span(11, 7, 7)), found["plus"])
+    names = {"z", "s", "plus", "X", "Y"}
+    same("server: completion of an argument", names, set(found))
+    same("server: completion of an argument, plus", (": Nat Nat -> Nat", span(11, 7, 7)), found["plus"])
     found = completed(client, 11, 4)
+    same("server: completion in a rule", {*names, "if", "and-if", "EVAL", "END-SPEC"}, set(found))
     same("server: completion within a word", span(11, 2, 4), found["plus"][1])
     found = completed(client, 13, 2)
     same("server: completion of a term", {"z", "s", "plus", "END-SPEC"}, set(found))
@@ -798,30 +799,36 @@ def seconds_of(process):
 
 
 def try_pace():
-    """What a keystroke takes: the least of twenty times, or the processor time if other programs take the processors."""
+    """A keystroke in a text of 1,000 lines: in a comment, and in a rule that is not complete."""
+    for name, keys in (("a comment", "%   x" * 4), ("half a rule", "f1(s(X),f2(Y,p(X,Y),")):
+        try_keys(name, keys)
+
+
+def try_keys(name, keys):
+    """What a key takes: the least of twenty times, or the processor time if other programs take the processors."""
     client = Client()
     text = long_text()
     same("server: a long text has 1,000 lines", 1000, text.count("\n"))
     client.open(text)
     client.diagnostics()
     place = position(400, len(text.split("\n")[400]))
-    count, checks, answers = 20, [], []
+    count, checks, answers = len(keys), [], []
     before = seconds_of(client.process)
-    for number in range(count):
-        place = {**place, "character": place["character"] + (number > 0)}
+    for key in keys:
         began = time.monotonic()
-        client.change((place, place, " " if number % 5 else "%"))
+        client.change((place, place, key))
         client.at("hover", position(400, 3))
         client.at("completion", position(400, 2))
         answers.append(time.monotonic() - began)
         checks.append((client.checked()[0] or began + 20) - began)
+        place = {**place, "character": place["character"] + 1}
     took = (seconds_of(client.process) - before) / count
     for what, times in (("diagnostics", checks), ("hover and completion", answers)):
         is_fast = min(times) < 0.1 or (os.getloadavg()[0] > os.cpu_count() and took < 0.1)
-        same(f"server: {what} took {min(times):.3f} s at least", True, is_fast)
+        same(f"server: {what} in {name} took {min(times):.3f} s at least", True, is_fast)
     checks, answers = ([f"{it * 1000:.0f}" for it in sorted(them)] for them in (checks, answers))
     print(
-        f"server: a keystroke in 1,000 lines takes {took * 1000:.0f} ms of processor time;"
+        f"server: a key in {name} of 1,000 lines takes {took * 1000:.0f} ms of processor time;"
         f" hover and completion came in {answers[0]} to {answers[-1]} ms, half of them in {answers[count // 2]},"
         f" diagnostics in {checks[0]} to {checks[-1]}, half of them in {checks[count // 2]}"
     )
@@ -866,6 +873,67 @@ found.typed = diagnostics(2)
 vim.fn.writefile({ vim.fn.json_encode(found) }, env.FOUND)
 vim.cmd('qa!')
 """
+
+
+# Neovim as a user sets it up by editors/README.md, with the keys and the values above EVAL terms.
+
+LUA_SETUP = r"""
+local env, found = vim.env, {}
+vim.cmd('filetype plugin on')
+vim.cmd('luafile ' .. env.SETUP)
+vim.cmd('edit ' .. env.SPEC)
+local function values()
+  local told = {}
+  for _, it in ipairs(vim.lsp.codelens.get(0)) do table.insert(told, it.command.title) end
+  return told
+end
+local function shown(count)
+  vim.wait(10000, function() return #values() == count end, 20)
+  return values()
+end
+found.values = shown(3)
+found.keys = {}
+for _, it in ipairs(vim.api.nvim_buf_get_keymap(0, 'n')) do table.insert(found.keys, it.lhs) end
+found.omnifunc = vim.bo.omnifunc
+vim.api.nvim_buf_set_lines(0, 13, 14, false, { '  plus(s(s(z)),z)' })
+vim.cmd('doautocmd InsertLeave')
+vim.wait(10000, function() return values()[1] == '= s(s(z))  (3 steps)' end, 20)
+found.later = values()
+vim.fn.writefile({ vim.fn.json_encode(found) }, env.FOUND)
+vim.cmd('qa!')
+"""
+
+
+def try_setup(room):
+    """The set-up of the documents: the block for versions before 0.11, or else the one from there on."""
+    if not shutil.which("nvim"):
+        return
+    with open(f"{TOP}/editors/README.md", encoding="utf-8") as file:
+        blocks = re.findall(r"```lua\n(.*?)```", file.read(), re.DOTALL)
+    numbers = re.search(r"v(\d+)\.(\d+)", run(["nvim", "--version"])).groups()
+    is_old = tuple(map(int, numbers)) < (0, 11)
+    for name, text in {"setup.rec": SPEC, "setup.lua": blocks[is_old], "user.lua": LUA_SETUP}.items():
+        with open(f"{room}/{name}", "w", encoding="utf-8") as file:
+            file.write(text)
+    folder = f"{room}/neovim"
+    os.mkdir(folder)
+    write_program(f"{folder}/recw-lsp", f'exec "{sys.executable}" "{SERVER}" --recw "{program()}"\n')
+    named = {"PATH": f"{folder}:{os.environ['PATH']}", "HOME": room, "XDG_STATE_HOME": room}
+    named.update({"SPEC": f"{room}/setup.rec", "SETUP": f"{room}/setup.lua", "FOUND": f"{room}/setup.json"})
+    words = ["nvim", "--headless", "-n", "-u", "NONE", "-c", f"set runtimepath^={TOP}/editors/vim"]
+    words += ["-c", f"luafile {room}/user.lua", "-c", "qa!"]
+    said = run(words, env={**os.environ, **named}, stderr=subprocess.STDOUT, stdin=subprocess.DEVNULL, timeout=90)
+    if not os.path.exists(named["FOUND"]):
+        same("neovim as set up: it ran", "", said)
+        return
+    with open(named["FOUND"], encoding="utf-8") as file:
+        found = json.load(file)
+    values = ["= s(s(z))  (2 steps)", "= s(z)  (0 steps)", "= z  (0 steps)"]
+    same("neovim as set up: values", values, found["values"])
+    same("neovim as set up: values later", ["= s(s(z))  (3 steps)", *values[1:]], found["later"])
+    if is_old:
+        same("neovim as set up: keys", ["K", "gd", "gra", "grn", "grr"], sorted(found["keys"]))
+        same("neovim as set up: completion", "v:lua.vim.lsp.omnifunc", found["omnifunc"])
 
 
 def try_neovim(room):
@@ -980,6 +1048,13 @@ def try_code(room):
         "status": 0,
     }
     same("extension: the client", wanted, {it: found.get(it) for it in wanted})
+    known = {
+        "help": ["plus : Nat Nat -> Nat", "the sum", [[7, 10], [11, 14]], 1],
+        "actions": [["Write `plus`", "quickfix"]],
+        "mended": [[11, 2, "plus"]],
+        "related": [["this parenthesis is not closed", position(10, 6)]],
+    }
+    same("extension: signatures, fixes", known, {it: found.get(it) for it in known})
     same("extension: completion", ["s", 19], next((it for it in found["completion"] if it[0] == "s"), None))
     same("extension: tokens", True, found["tokens"] > 0 and found["tokens"] % 5 == 0)
 
@@ -1001,5 +1076,6 @@ def try_server(room):
     try_cancel(room)
     try_pace()
     try_neovim(room)
+    try_setup(room)
     try_emacs(room)
     try_code(room)

@@ -23,7 +23,7 @@ RUNS = {
     "rx_run": {"print_term", "share_term", "match_term", "make_term"},
 }
 # the crates of tests are no libraries
-TESTS = {"store_rows"}
+TESTS = {"test_store"}
 IMPORT = re.compile(r"^\s*(?:ghost )?use Rattle\.(\w+)\.specs\.([\w.]+?)(?:\.\{(.*?)\}| as (\w+))?;?\s*$")
 WORD = re.compile(r"[^\s(){}\[\],;`\"@λ]+")
 ITEM = re.compile(r"^(?:abbrev |record |data |ruleset )?(?:pub )?(?:abbrev |record |data )?([^\s(){}:]+)")

@@ -15,7 +15,7 @@ from refuse import REQUESTS, answer, blocks
 # How many requests one process refuses before it asks for more.
 SHARE = 16
 # The program that makes one call of a crate.
-CALLER = f"{TOP}/crates/hostile/out/hostile"
+CALLER = f"{TOP}/crates/test_alloc_failure/out/test_alloc_failure"
 # Other runs: the words, and the output that docs/reference gives.
 OTHERS = (
     (["aterm", "term"], "f ( a , [ 1 , -007 ] ) { b }", "f(a,[1,-7]){b}\n"),
@@ -66,7 +66,7 @@ PROFILE = re.compile(
     r"profile: cells: \d+ made, \d+ in use at most\nprofile: garbage collections: 0\n"
 )
 NO_PROFILE = "profile: out of memory\n"
-# What a bank has behind a call, where the protected term and its 14 parts alone are left: crates/hostile/src/banks.rt
+# What a bank has behind a call, where the protected term and its 14 parts alone are left: crates/test_alloc_failure/src/banks.rt
 # counts them.
 ROOTS = ["65534 protections left", "f(g(a),[1,<7>]){b}", "14 cells kept"]
 # What is due of each call: the lines after a refusal alone, and those at the end.
@@ -241,7 +241,7 @@ def try_blocks(row):
 def try_crates():
     """How many requests were refused."""
     if not os.path.exists(CALLER):
-        print(f"not tried: crates: {CALLER} is not there; rt run in crates/hostile builds it")
+        print(f"not tried: crates: {CALLER} is not there; rt run in crates/test_alloc_failure builds it")
         return 0
     count = 0
     for (row, (refusal, ending)), answers in refused_calls(list(calls())):

@@ -3,7 +3,7 @@
 
     options.py [--write]
 
-The help is read from the sources of crates/recw_words, so no built program is needed; tests/help.py compares it with
+The help is read from the sources of crates/recw_cli, so no built program is needed; tests/help.py compares it with
 what the program prints. Completions are tried in the shells that are installed. The lists of options in completions/ are between lines with `options begin` and `options end`;
 --write writes them anew.
 """
@@ -15,7 +15,7 @@ from typing import NamedTuple
 
 from common import TOP, done, run, same, tables, text_of
 
-SOURCES = ("crates/recw_words/src/arguments.rt", "crates/recw_words/src/command.rt")
+SOURCES = ("crates/recw_cli/src/arguments.rt", "crates/recw_cli/src/command.rt")
 # What clap adds to the list of commands, and a topic of help that is no command.
 HELP_COMMAND = ("help", "Print this message or the help of the given subcommand(s)")
 TOPICS = {"refusals": "Print the error codes and their meanings"}

@@ -25,16 +25,29 @@ it.value = arguments[1]; it.dispatchEvent(new Event('input'));"""
 # A text with a part that an element comes to have.
 TEXT_WITH = "const it = document.getElementById({!r}).textContent; return it.includes({!r}) && it"
 NAMES = ["term", "pattern", "args"]
-# Input terms of examples/add.rec with an error, and the part that is marked.
-TERM_ERRORS = [
-    ("A", "[z,]", "]"),
-    ("T1", "z", "z"),
-    ("T1", "[z]{a}", "{"),
-    ("T2", "[z,plus(z,[1])]", "["),
-    ("T2", "[s(3)]", "3"),
-    ("T3", "[z{a},s(z{a})]", "z"),
-    ("T4", "[z,s(q)]", "q"),
-    ("T5", "[plus(z,z),plus(z)]", "plus"),
+# Input terms of a specification with an error: its code, the part that is marked and its location, and what is said.
+TERM_ERRORS = {
+    "add": [
+        ("A", "[z,]", "]", (1, 4), "found “]”; expected an integer, a name, “(”, “[” or “<”"),
+        ("A", "[z,s(", "␃", (1, 6), "unexpected end of text; expected an integer, a name, “(”, “)”, “[” or “<”"),
+        ("T1", "z", "z", (1, 1), "write brackets around it"),
+        ("T1", "[z]{a}", "{", (1, 4), "remove the annotations of the list"),
+        ("T2", "[z,plus(z,[1])]", "[", (1, 11), "element 2 of the list; found a list"),
+        ("T2", "[s(3)]", "3", (1, 4), "element 1 of the list; found the integer 3"),
+        ("T3", "[z{a},s(z{a})]", "z", (1, 9), "element 2 of the list; found on z"),
+        ("T4", "[z,s(q)]", "q", (1, 6), "element 2 of the list; q"),
+        ("T5", "[plus(z,z),plus(z)]", "plus", (1, 12), "element 2 of the list; plus takes 2 arguments, found 1"),
+    ],
+    "tutorial/sort": [
+        ("T6", "[nil,\n sort(z)]", "z", (2, 7), "element 2 of the list; expected List, found Nat"),
+    ],
+}
+# Specifications outside of the grammar, as changes of examples/add.rec: where it is said, and what.
+SYNTAX_ERRORS = [
+    ("-> s(plus", "-> é(plus", (12, 19), "found “é”; expected an identifier."),
+    ("-> Y", "->", (12, 16), "found “->”; expected an identifier, “EVAL”, “END-SPEC” or “if”."),
+    ("END-SPEC", "", (16, 1), "unexpected end of text; expected an identifier or “END-SPEC”."),
+    ("plus(z,Y) ->", "plus(z,Y ->", (11, 12), "found “->”; expected “(”, “)” or “,”."),
 ]
 SELECTED = "const it = document.activeElement; return it.value.slice(it.selectionStart, it.selectionEnd)"
 FOCUSED = "return document.activeElement.id"
@@ -46,6 +59,12 @@ NODES = """return [...document.querySelectorAll('.node' + arguments[0])].map((it
 SHOWN = "const it = document.getElementById('pattern-shown').textContent; return it.startsWith('yes') && it"
 REQUESTS = """return performance.getEntriesByType('resource').map((it) => it.name)
     .filter((it) => !/^(blob|data):/.test(it))"""
+# Whether two buttons of a trace have the same colours.
+ALIKE = """const of = (it) => getComputedStyle(document.getElementById(`firings-${it}`));
+const [one, other] = [...arguments].map(of);
+return one.backgroundColor === other.backgroundColor && one.color === other.color"""
+QUESTION = """const {left, right} = document.getElementById('replace').getBoundingClientRect();
+return [left, innerWidth - right]"""
 NAMELESS = """return [...document.querySelectorAll('button, input, select, textarea')].filter((it) => !it.hidden
     && !it.textContent && !it.labels?.length && !it.ariaLabel && !it.getAttribute('aria-labelledby'))
     .map((it) => it.outerHTML)"""
@@ -75,33 +94,36 @@ def rule_is_changed(browser):
     spec = text_of("examples/add.rec").replace("plus(z,Y) -> Y", "plus(z,Y) -> s(Y)")
     browser.do("document.querySelector('#spec textarea').select()")
     browser.keys("#spec textarea", spec)
-    found = browser.wait("return document.querySelector('#values td:nth-child(2)').textContent === 's(s(s(s(z))))'")
+    found = browser.wait("return document.querySelector('#values td:nth-child(2)')?.textContent === 's(s(s(s(z))))'")
     same("a rule is changed and seen", True, found)
 
 
 def refusal(browser):
     spec = text_of("examples/add.rec")
-    put(browser, "#spec", spec.replace("-> s(plus", "-> é(plus"))
-    said(browser, "rejected")
-    line = 1 + spec[: spec.index("-> s(plus")].count("\n")
-    begin = f"The specification is rejected at line {line}, column 19: G, "
-    same("an error is said", begin, browser.do(SAID)[: len(begin)])
-    same("what was found and expected", True, browser.do(SAID).endswith("; found “é”; expected an identifier."))
+    for before, after, (line, column), words in reversed(SYNTAX_ERRORS):
+        put(browser, "#spec", spec.replace(before, after))
+        found = said(browser, "rejected") or ""
+        begin = f"The specification is rejected at line {line}, column {column}: G, "
+        same(f"an error of {after!r} is said", begin, found[: len(begin)])
+        same(f"what was found and expected at {after!r}", words, found[-len(words) :])
     same("it is marked", ["é", str(line)], [browser.text("#spec .bad-place"), browser.text("#spec .numbers .bad")])
     browser.do("document.querySelector('.refusal > button').click()")
     same("one goes there", "é", browser.do(SELECTED))
     put(browser, "#spec", spec.replace("RULES", "RULSE"))
     same("a misspelled word", True, "did you mean RULES?" in (browser.wait(TEXT_WITH.format("values", "RULES?")) or ""))
-    put(browser, "#spec", spec)
-    for code, terms, marked in TERM_ERRORS:
-        put(browser, "#terms", terms)
-        marks = "return document.querySelector('#terms .bad-place')?.textContent"
-        same(f"what has {code} in {terms}", marked, browser.wait(marks))
-        same(f"{code} of {terms} is told", True, said(browser, f": {code}, ") is not None)
-    put(browser, "#terms", "[z,plus(z,nil)]")
-    told = said(browser, "T4") or ""
-    same("which term", True, "element 2 of the list; nil" in told and "line 1, column 11" in told)
+    for name, all_of in TERM_ERRORS.items():
+        put(browser, "#terms", "")
+        put(browser, "#spec", text_of(f"examples/{name}.rec"))
+        for code, terms, marked, (line, column), words in all_of:
+            put(browser, "#terms", terms)
+            begin = f"The input terms are rejected at line {line}, column {column}: {code}, "
+            told = said(browser, begin) or ""
+            same(f"{code} of {terms!r} is told: {told}", True, f"; {words}" in told)
+            same(f"what has {code} in {terms!r}", marked, browser.text("#terms .bad-place"))
+            web_editor.leads(browser, "#values button.code", code)
+            show_tab(browser, "values")
     put(browser, "#terms", "")
+    put(browser, "#spec", spec)
     said(browser, "1 line")
 
 
@@ -200,8 +222,10 @@ def steps(browser):
     browser.press(END)
     is_firing(browser, 13, 13, redexes[12], 12)
     same("forth leads no further", True, browser.do("return document.getElementById('firings-forth').disabled"))
+    same("and looks like last, which leads no further", True, browser.do(ALIKE, "forth", "last"))
     browser.press(HOME)
     is_firing(browser, 1, 13, redexes[0], 0)
+    same("forth leads on, and looks like it", False, browser.do(ALIKE, "forth", "last"))
     same("its end", f"After 13 steps the value is {tower(13, 'z')}", browser.text("#firings-end"))
     browser.do("document.getElementById('firing-go').click()")
     same("one goes to the rule", "plus(s(X),Y) -> s(plus(X,Y))", browser.do(SELECTED))
@@ -234,7 +258,7 @@ def graph(browser):
     """f(a,a) has five cells. Both cells of its list of arguments refer to a; a and the last cell refer to the end."""
     put(browser, "#terms", "")
     put(browser, "#spec", text_of("examples/add.rec"))
-    browser.wait("return document.querySelector('#values td:nth-child(2)').textContent === 's(s(s(z)))'")
+    browser.wait("return document.querySelector('#values td:nth-child(2)')?.textContent === 's(s(s(z)))'")
     browser.do("document.getElementById('term-text').value = 'f(a,a)'")
     show_tab(browser, "graph")
     text_with(browser, "graph-said", "cell")
@@ -383,6 +407,10 @@ def check(browser):
     same("a message leads to its place", "Q", browser.do(SELECTED))
     begin = len(spec[: spec.index("plus(X,Y)")]) + len("plus(X,")
     same("to that and no other", begin, browser.do("return document.activeElement.selectionStart"))
+    put(browser, "#spec", spec.replace("plus(z,Y) -> Y", "plus(z,Q) -> Y"))
+    said_there = "The specification is rejected with S5; it has 2 errors in all."
+    same("errors of two codes", said_there, text_with(browser, "found-said", "in all"))
+    same("each has its code", "S5|S10", browser.text(".message button.code"))
     put(browser, "#spec", text_of("examples/check/unused.rec"))
     warned = "The specification is valid, with 3 warnings."
     same("warnings are told", warned, text_with(browser, "found-said", "warning"))
@@ -390,7 +418,7 @@ def check(browser):
     web_editor.leads(browser, ".message:first-child button.code", "W4")
     show_tab(browser, "found")
     put(browser, "#spec", spec)
-    same("nothing is found", True, text_with(browser, "found-said", "nothing") is not None)
+    same("nothing is found", True, text_with(browser, "found-said", "without warnings") is not None)
     same("nothing is marked", "", browser.text("#spec .numbers .bad") + browser.text("#spec .numbers .warn"))
     show_tab(browser, "values")
 
@@ -421,6 +449,7 @@ def pictures_of(browser, folder):
         said(browser, "millisecond")
         browser.do(CHOOSE, "examples", 3)
         picture(browser, folder, f"{width}-{scheme}-replace")
+        same(f"the question is within {width} pixels", True, min(browser.do(QUESTION)) > 8)
         browser.do("document.getElementById('replace-no').click()")
         pictures_of_names(browser, folder, f"{width}-{scheme}")
         pictures_of_tabs(browser, folder, f"{width}-{scheme}")

@@ -538,25 +538,36 @@ def tutorial(browser):
     shown = browser.do("return data.examples.map((it) => it.spec)")
     same("specifications of the tutorial", [], [it for it in blocks if it not in shown])
     shows = {"eval": tutorial_values, "trace": tutorial_trace, "check": tutorial_check}
-    tried = {it: 0 for it in shows}
-    for line, wanted in re.findall(r"^\$ (recw [^\n]*)\n(.*?)(?=^\$|^```)", text_of("docs/TUTORIAL.md"), re.M | re.S):
-        _, command, *words = shlex.split(line.removesuffix(" 2>&1"))
-        files = [it for it in words if it.startswith("examples/")]
-        if "--symbol" in words or not files:
+    tried, written = {it: 0 for it in shows}, {}
+    for line, wanted in re.findall(r"^\$ ([^\n]*)\n(.*?)(?=^\$|^```)", text_of("docs/TUTORIAL.md"), re.M | re.S):
+        program, command, *words = shlex.split(line.removesuffix(" 2>&1"))
+        if program == "printf":
+            name = words[-1].lstrip(">")
+            written[name] = written.get(name, "") + command.encode().decode("unicode_escape")
+        files = [it for it in words if it.startswith("examples/") or it in written]
+        if program != "recw" or "--symbol" in words or not files:
             continue
         given = [words[i + 1] for i, it in enumerate(words) if it == "-e"]
-        spec, terms = text_of(files[0]), text_of(files[1]) if files[1:] else ""
-        number = "return data.examples.findIndex((it) => it.spec === arguments[0] && it.terms === arguments[1])"
-        at = browser.do(number, spec, terms)
-        same(f"{files} is an example", True, at >= 0)
-        browser.do("showExample(data.examples[arguments[0]]); editors.spec.tell()", at)
+        if files[0] in written:
+            paste(browser, "terms", "")
+            paste(browser, "spec", written[files[0]])
+        else:
+            show_files(browser, files)
         if given:
             paste(browser, "terms", f"[{','.join(given)}]")
         shows[command](browser, line, words, wanted.splitlines())
         tried[command] += 1
-    same("of the tutorial are tried", {"eval": 12, "trace": 1, "check": 2}, tried)
+    same("of the tutorial are tried", {"eval": 13, "trace": 1, "check": 2}, tried)
     browser.do("document.getElementById('tab-values').click()")
     paste(browser, "terms", "")
+
+
+def show_files(browser, files):
+    spec, terms = text_of(files[0]), text_of(files[1]) if files[1:] else ""
+    number = "return data.examples.findIndex((it) => it.spec === arguments[0] && it.terms === arguments[1])"
+    at = browser.do(number, spec, terms)
+    same(f"{files} is an example", True, at >= 0)
+    browser.do("showExample(data.examples[arguments[0]]); editors.spec.tell()", at)
 
 
 def tutorial_values(browser, line, words, wanted):
@@ -595,7 +606,7 @@ def tutorial_check(browser, line, _, wanted):
     browser.do("document.getElementById('tab-found').click()")
     lines = []
     for it in wanted:
-        row, column, code, words = re.match(r"[^:]*:(\d+):(\d+): (\w+): (.*)", it).groups()
+        row, column, words, code = re.fullmatch(r"[^:]*:(\d+):(\d+): (?:error|warning): (.*) \[(\w+)\]", it).groups()
         lines.append(f"{code}Line {row}, column {column} {words}")
     shown = "[...document.querySelectorAll('.message')].map((it) => it.textContent).join('|')"
     same(line, True, browser.wait(f"return {shown} === {'|'.join(lines)!r}"))
@@ -611,7 +622,7 @@ def leads(browser, button, code):
 
 def helps(browser):
     """Each code has an explanation, to which it leads; the language fits on one screen."""
-    known = set(browser.do("return Object.keys(data.refusals)")) | {f"W{i}" for i in range(1, 5)}
+    known = set(browser.do("return Object.keys(data.refusals)")) | {f"W{i}" for i in range(1, 6)}
     same("all codes are explained", sorted(known), sorted(browser.text("#codes dt").split("|")))
     browser.look(1400, 900, "light")
     browser.do("document.getElementById('help-open').click()")

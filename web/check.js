@@ -20,9 +20,11 @@ function messageOf(found) {
 
 function summaryOf(found, count) {
   const more = count > found.length ? `, of which ${found.length} are shown` : '';
-  if (!count) return 'The specification is valid, and nothing in it is conspicuous.';
+  if (!count) return 'The specification is valid, without warnings.';
   if (found[0].kind === 'warn') return `The specification is valid, with ${plural(count, 'warning')}${more}.`;
-  return `The specification is rejected with ${found[0].rule}, at ${plural(count, 'location')}${more}.`;
+  const { rule } = found[0], isAlone = found.every((it) => it.rule === rule);
+  const places = isAlone ? `, at ${plural(count, 'location')}` : `; it has ${plural(count, 'error')} in all`;
+  return `The specification is rejected with ${rule}${places}${more}.`;
 }
 
 function listenToCheck(runner) {

@@ -25,7 +25,7 @@ function wordsOfProfile({ broken, fault, error, totals, isCounted }) {
 
 function wordsOfTotals({ steps, hits, saved, made, most, collections }) {
   const number = (it) => it.toLocaleString('en');
-  return `${plural(steps, 'step')}, of which ${plural(hits, 'hit')} of the memo table stand for ${number(saved)}; `
+  return `${plural(steps, 'step')}, ${number(saved)} of them saved by ${plural(hits, 'hit')} of the memo table; `
     + `${plural(made, 'new cell')}, at most ${number(most)} in use; ${plural(collections, 'garbage collection')}.`;
 }
 

@@ -368,7 +368,7 @@ class Versions(unittest.TestCase):
             parts = re.findall(r"#define PSILT_VERSION_M?[AIP][A-Z]* ([0-9]+)\n", file.read())
         self.assertEqual(".".join(parts), percalesilt.VERSION)
         self.assertEqual(version_of(percalesilt.library()), percalesilt.VERSION)
-        with open(f"{TOP}/crates/recw_words/src/command.rt", encoding="utf-8") as file:
+        with open(f"{TOP}/crates/recw_cli/src/command.rt", encoding="utf-8") as file:
             self.assertIn(f'const VERSION: &str = "{percalesilt.VERSION}";', file.read())
 
 
@@ -559,7 +559,7 @@ class Objects(WithStore):
         self.assertEqual(str(self.fails(KIND, pattern.make, [])), words)
 
     def test_words_are_those_of_recw(self) -> None:
-        with open(f"{TOP}/crates/recw_words/src/refusals.rt", encoding="utf-8") as file:
+        with open(f"{TOP}/crates/recw_cli/src/refusals.rt", encoding="utf-8") as file:
             words = " ".join(file.read().replace("\\\n", " ").split())
         # all but T1, which is of lists of terms
         self.assertEqual(len(percalesilt.REASONS), 23)

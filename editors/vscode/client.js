@@ -13,6 +13,7 @@ const rangeOf = (it) => new Range(it.start.line, it.start.character, it.end.line
 const placeOf = (it) => ({ line: it.line, character: it.character });
 const spanOf = (it) => ({ start: placeOf(it.start), end: placeOf(it.end) });
 const locationOf = (it) => new Location(vscode.Uri.parse(it.uri), rangeOf(it.range));
+const relatedOf = (it) => new vscode.DiagnosticRelatedInformation(locationOf(it.location), it.message);
 const isOurs = (document) => document.languageId === LANGUAGE;
 
 // A process that is sent messages of JSON with their lengths.
@@ -104,6 +105,8 @@ class Client {
     const textDocument = {
       hover: { contentFormat: ['markdown'] },
       documentSymbol: { hierarchicalDocumentSymbolSupport: true },
+      publishDiagnostics: { relatedInformation: true },
+      signatureHelp: { signatureInformation: { parameterInformation: { labelOffsetSupport: true } } },
     };
     this.ready = server.ask('initialize', { processId: process.pid, rootUri: null, capabilities: { textDocument } });
     this.ready.then(() => {
@@ -123,7 +126,8 @@ class Client {
     if (method !== 'textDocument/publishDiagnostics') return;
     const found = params.diagnostics.map((it) => {
       const made = new vscode.Diagnostic(rangeOf(it.range), it.message, it.severity - 1);
-      return Object.assign(made, { code: it.code, source: it.source, tags: it.tags });
+      const relatedInformation = (it.relatedInformation || []).map(relatedOf);
+      return Object.assign(made, { code: it.code, source: it.source, tags: it.tags, relatedInformation });
     });
     this.found.set(vscode.Uri.parse(params.uri), found);
   }
@@ -179,7 +183,23 @@ function symbolOf(it) {
 
 function itemOf(it) {
   const made = new vscode.CompletionItem(it.label, it.kind - SYMBOL_BEFORE);
-  return Object.assign(made, { detail: it.detail, insertText: it.textEdit.newText, range: rangeOf(it.textEdit.range) });
+  const { detail, sortText, textEdit: { range, newText } } = it;
+  return Object.assign(made, { detail, sortText, insertText: newText, range: rangeOf(range) });
+}
+
+function helpOf({ signatures, activeSignature, activeParameter }) {
+  const made = new vscode.SignatureHelp();
+  made.signatures = signatures.map(({ label, documentation, parameters }) => {
+    const signature = new vscode.SignatureInformation(label, documentation);
+    signature.parameters = parameters.map((it) => new vscode.ParameterInformation(it.label));
+    return signature;
+  });
+  return Object.assign(made, { activeSignature, activeParameter });
+}
+
+function actionOf(it) {
+  const made = new vscode.CodeAction(it.title, vscode.CodeActionKind.QuickFix);
+  return Object.assign(made, { edit: editOf(it.edit) });
 }
 
 const hoverOf = (it) => new vscode.Hover(new vscode.MarkdownString(it.contents.value), rangeOf(it.range));
@@ -213,6 +233,13 @@ function providers(client, legend) {
     }),
     them.registerCompletionItemProvider(LANGUAGE, {
       provideCompletionItems: (d, p, t) => ask('completion', d, t, at(p), all(itemOf)),
+    }),
+    them.registerSignatureHelpProvider(LANGUAGE, {
+      provideSignatureHelp: (d, p, t) => ask('signatureHelp', d, t, at(p), helpOf),
+    }, '(', ','),
+    them.registerCodeActionsProvider(LANGUAGE, {
+      provideCodeActions: (d, range, _, t) =>
+        ask('codeAction', d, t, { range: spanOf(range), context: { diagnostics: [] } }, all(actionOf)),
     }),
     them.registerCodeLensProvider(LANGUAGE, { provideCodeLenses: (d, t) => ask('codeLens', d, t, {}, all(lensOf)) }),
     them.registerDocumentSemanticTokensProvider(LANGUAGE, {

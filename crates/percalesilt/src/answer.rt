@@ -4,13 +4,13 @@ ghost use Rattle.std.specs.Prelude.{◌≡◌, ◌≢◌, ℕ, ℤ};
 ghost use Rattle.rx_term.specs.Store.{Store};
 ghost use Rattle.rx_term.specs.Kinds.{HasKind};
 ghost use Rattle.rx_term.specs.declared.Term.{Term as Reference};
-ghost use Rattle.psilt_work.specs.Codes.{told, fault_at};
-ghost use Rattle.psilt_work.specs.Answers.{term_of, Looks, HasKindNumber};
-ghost use Rattle.psilt_work.specs.Evaluating.{normalised_of};
+ghost use Rattle.psilt_core.specs.Codes.{told, fault_at};
+ghost use Rattle.psilt_core.specs.Answers.{term_of, Looks, HasKindNumber};
+ghost use Rattle.psilt_core.specs.Evaluating.{normalised_of};
 
-use psilt_work::Fault;
-use psilt_work::evaluating::Normalised;
-use psilt_work::fault::code;
+use psilt_core::Fault;
+use psilt_core::evaluating::Normalised;
+use psilt_core::fault::code;
 use rx_term::{Kind, Term};
 
 /// The return code if the handle is closed.

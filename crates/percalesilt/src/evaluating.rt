@@ -3,16 +3,16 @@
 ghost use Rattle.std.specs.Prelude.{◌≡◌, ◌≢◌, []};
 ghost use Rattle.rx_term.specs.Store.{tree_at};
 ghost use Rattle.rx_term.specs.Steps.{Keeps};
-ghost use Rattle.psilt_work.specs.Codes.{told};
-ghost use Rattle.psilt_work.specs.Answers.{term_of};
-ghost use Rattle.psilt_work.specs.Banks.{store_of};
-ghost use Rattle.psilt_work.specs.Evaluating.{Specifies, Unspecifies, Normalises, CountsTerms};
-ghost use Rattle.psilt_work.specs.Evaluating.{GivesTerm, normalised_of};
-ghost use Rattle.psilt_work.specs.Handles.{OnWork};
-ghost use Rattle.psilt_work.specs.Works.{IsSameButBound, IsSameButRun, IsSameButSpec, Forgets};
+ghost use Rattle.psilt_core.specs.Codes.{told};
+ghost use Rattle.psilt_core.specs.Answers.{term_of};
+ghost use Rattle.psilt_core.specs.Banks.{store_of};
+ghost use Rattle.psilt_core.specs.Evaluating.{Specifies, Unspecifies, Normalises, CountsTerms};
+ghost use Rattle.psilt_core.specs.Evaluating.{GivesTerm, normalised_of};
+ghost use Rattle.psilt_core.specs.Handles.{OnWork};
+ghost use Rattle.psilt_core.specs.Works.{IsSameButBound, IsSameButRun, IsSameButSpec, Forgets};
 
 use crate::answer::{give, on_work, tell, tell_done, tell_value};
-use psilt_work::Psilt;
+use psilt_core::Psilt;
 use rx_term::Term;
 use std::alloc::Global;
 

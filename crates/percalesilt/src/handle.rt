@@ -1,10 +1,10 @@
 //! Opening and closing of handles for C.
 
 ghost use Rattle.std.specs.Prelude.{◌≡◌};
-ghost use Rattle.psilt_work.specs.Handles.{Opens, Closes};
+ghost use Rattle.psilt_core.specs.Handles.{Opens, Closes};
 
 use crate::answer::CLOSED;
-use psilt_work::{Fault, Psilt, Work};
+use psilt_core::{Fault, Psilt, Work};
 use std::alloc::Global;
 
 /// Opens a handle over an empty store of at most `cap` cells.

@@ -2,14 +2,14 @@
 
 ghost use Rattle.std.specs.Prelude.{◌≡◌, ◌≢◌, [], OnErr, OnOk};
 ghost use Rattle.rx_term.specs.Store.{cells};
-ghost use Rattle.psilt_work.specs.Codes.{told};
-ghost use Rattle.psilt_work.specs.Answers.{term_of, Protects, Unprotects, Keeps, MakesRoom};
-ghost use Rattle.psilt_work.specs.Banks.{store_of};
-ghost use Rattle.psilt_work.specs.Handles.{OnBank, OnWork, InBank};
-ghost use Rattle.psilt_work.specs.Works.{IsSameButBound};
+ghost use Rattle.psilt_core.specs.Codes.{told};
+ghost use Rattle.psilt_core.specs.Answers.{term_of, Protects, Unprotects, Keeps, MakesRoom};
+ghost use Rattle.psilt_core.specs.Banks.{store_of};
+ghost use Rattle.psilt_core.specs.Handles.{OnBank, OnWork, InBank};
+ghost use Rattle.psilt_core.specs.Works.{IsSameButBound};
 
 use crate::answer::{on_work, tell, tell_done};
-use psilt_work::Psilt;
+use psilt_core::Psilt;
 use rx_term::Term;
 use std::alloc::Global;
 

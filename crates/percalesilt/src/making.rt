@@ -3,14 +3,14 @@
 ghost use Rattle.std.specs.Prelude.{◌≡◌, ◌≢◌, [], ◌∷◌, Some};
 ghost use Rattle.rx_term.specs.Tree.{Int, Items, none};
 ghost use Rattle.rx_term.specs.Store.{tree_at, longer, held_open, noted};
-ghost use Rattle.psilt_work.specs.Codes.{told};
-ghost use Rattle.psilt_work.specs.Answers.{term_of, MakesFrom, Applies};
-ghost use Rattle.psilt_work.specs.Banks.{store_of};
-ghost use Rattle.psilt_work.specs.Handles.{OnBank, OnWork};
-ghost use Rattle.psilt_work.specs.Works.{IsSameButBank};
+ghost use Rattle.psilt_core.specs.Codes.{told};
+ghost use Rattle.psilt_core.specs.Answers.{term_of, MakesFrom, Applies};
+ghost use Rattle.psilt_core.specs.Banks.{store_of};
+ghost use Rattle.psilt_core.specs.Handles.{OnBank, OnWork};
+ghost use Rattle.psilt_core.specs.Works.{IsSameButBank};
 
 use crate::answer::{give, on_work};
-use psilt_work::Psilt;
+use psilt_core::Psilt;
 use rx_term::Term;
 use std::alloc::Global;
 

@@ -3,16 +3,16 @@
 ghost use Rattle.std.specs.Prelude.{◌≡◌, ◌≢◌};
 ghost use Rattle.rx_term.specs.Steps.{Grows};
 ghost use Rattle.rx_pattern.specs.Held.{AddsOnlyLists};
-ghost use Rattle.psilt_work.specs.Banks.{store_of};
-ghost use Rattle.psilt_work.specs.Codes.{told};
-ghost use Rattle.psilt_work.specs.Answers.{term_of};
-ghost use Rattle.psilt_work.specs.Patterns.{ReadsPattern, FreesPattern, Matches, TellsBound, Fills};
-ghost use Rattle.psilt_work.specs.Patterns.{pattern_at};
-ghost use Rattle.psilt_work.specs.Handles.{OnWork};
-ghost use Rattle.psilt_work.specs.Works.{IsSameButBank, IsSameButBound, IsSameButPatterns};
+ghost use Rattle.psilt_core.specs.Banks.{store_of};
+ghost use Rattle.psilt_core.specs.Codes.{told};
+ghost use Rattle.psilt_core.specs.Answers.{term_of};
+ghost use Rattle.psilt_core.specs.Patterns.{ReadsPattern, FreesPattern, Matches, TellsBound, Fills};
+ghost use Rattle.psilt_core.specs.Patterns.{pattern_at};
+ghost use Rattle.psilt_core.specs.Handles.{OnWork};
+ghost use Rattle.psilt_core.specs.Works.{IsSameButBank, IsSameButBound, IsSameButPatterns};
 
 use crate::answer::{give, on_work, tell, tell_done};
-use psilt_work::Psilt;
+use psilt_core::Psilt;
 use rx_term::Term;
 use std::alloc::Global;
 

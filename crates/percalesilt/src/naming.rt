@@ -1,16 +1,16 @@
 //! Symbols by numbers, and the limit of names, for C.
 
 ghost use Rattle.std.specs.Prelude.{◌≡◌, ◌≢◌};
-ghost use Rattle.psilt_work.specs.Banks.{signature_at, store_of};
-ghost use Rattle.psilt_work.specs.Codes.{told};
-ghost use Rattle.psilt_work.specs.Answers.{term_of};
-ghost use Rattle.psilt_work.specs.Names.{names_of};
-ghost use Rattle.psilt_work.specs.Symbols.{AppliesSymbol, GivesNumber};
-ghost use Rattle.psilt_work.specs.Handles.{InBank, OnWork};
-ghost use Rattle.psilt_work.specs.Works.{IsSameButBank, IsSameButLimit, IsSameButSymbols};
+ghost use Rattle.psilt_core.specs.Banks.{signature_at, store_of};
+ghost use Rattle.psilt_core.specs.Codes.{told};
+ghost use Rattle.psilt_core.specs.Answers.{term_of};
+ghost use Rattle.psilt_core.specs.Names.{names_of};
+ghost use Rattle.psilt_core.specs.Symbols.{AppliesSymbol, GivesNumber};
+ghost use Rattle.psilt_core.specs.Handles.{InBank, OnWork};
+ghost use Rattle.psilt_core.specs.Works.{IsSameButBank, IsSameButLimit, IsSameButSymbols};
 
 use crate::answer::{give, on_work, tell, tell_done};
-use psilt_work::Psilt;
+use psilt_core::Psilt;
 use std::alloc::Global;
 
 /// Writes the number of the one symbol with this name, quoted flag and number of arguments.

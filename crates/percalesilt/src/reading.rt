@@ -2,13 +2,13 @@
 
 ghost use Rattle.std.specs.Prelude.{◌≡◌, ◌≢◌, ℕ, ℤ, IsSome};
 ghost use Rattle.rx_term.specs.Store.{tree_at, head_of, tail_of, args_of, inner_of, anns_of};
-ghost use Rattle.psilt_work.specs.Codes.{told};
-ghost use Rattle.psilt_work.specs.Answers.{term_of, Looks, HasKindNumber, ReadsPart, ReadsArg};
-ghost use Rattle.psilt_work.specs.Answers.{ReadsOf, quoted_in, arity_in};
-ghost use Rattle.psilt_work.specs.Handles.{InBank};
+ghost use Rattle.psilt_core.specs.Codes.{told};
+ghost use Rattle.psilt_core.specs.Answers.{term_of, Looks, HasKindNumber, ReadsPart, ReadsArg};
+ghost use Rattle.psilt_core.specs.Answers.{ReadsOf, quoted_in, arity_in};
+ghost use Rattle.psilt_core.specs.Handles.{InBank};
 
 use crate::answer::{give, on_work, tell, tell_done, tell_kind};
-use psilt_work::Psilt;
+use psilt_core::Psilt;
 use rx_term::Term;
 use std::alloc::Global;
 

@@ -1,10 +1,10 @@
 //! Stops of evaluations, for C.
 
 ghost use Rattle.std.specs.Prelude.{◌≡◌, Some};
-ghost use Rattle.psilt_work.specs.Handles.{work_of, Joins, OnWork};
+ghost use Rattle.psilt_core.specs.Handles.{work_of, Joins, OnWork};
 
 use crate::answer::{CLOSED, on_work, tell_done};
-use psilt_work::{Psilt, Work};
+use psilt_core::{Psilt, Work};
 use std::alloc::Global;
 
 /// Lets requests to another handle stop the evaluations of this one, in place of those that could

@@ -1,16 +1,16 @@
 //! Texts of terms for C: reading, printing, and locations of errors.
 
 ghost use Rattle.std.specs.Prelude.{◌≡◌, ◌≢◌, Err};
-ghost use Rattle.psilt_work.specs.Banks.{store_of};
-ghost use Rattle.psilt_work.specs.Codes.{told};
-ghost use Rattle.psilt_work.specs.declared.fault.Fault.TheVariants.{Syntax};
-ghost use Rattle.psilt_work.specs.Answers.{term_of, Reads, Spells, Copies, printed_in, name_in};
-ghost use Rattle.psilt_work.specs.Answers.{SpellsWithin};
-ghost use Rattle.psilt_work.specs.Handles.{OnWork};
-ghost use Rattle.psilt_work.specs.Works.{IsSameButText, IsSameButRead};
+ghost use Rattle.psilt_core.specs.Banks.{store_of};
+ghost use Rattle.psilt_core.specs.Codes.{told};
+ghost use Rattle.psilt_core.specs.declared.fault.Fault.TheVariants.{Syntax};
+ghost use Rattle.psilt_core.specs.Answers.{term_of, Reads, Spells, Copies, printed_in, name_in};
+ghost use Rattle.psilt_core.specs.Answers.{SpellsWithin};
+ghost use Rattle.psilt_core.specs.Handles.{OnWork};
+ghost use Rattle.psilt_core.specs.Works.{IsSameButText, IsSameButRead};
 
 use crate::answer::{give, on_work, tell, tell_done};
-use psilt_work::Psilt;
+use psilt_core::Psilt;
 use rx_term::Term;
 use std::alloc::Global;
 

@@ -4,7 +4,7 @@ use Rattle.std.specs.List.{AllByRecursion, list_any}
 use Rattle.indexmap.specs.IndexSet.{insert_key, insert_all}
 use Rattle.rx_term.specs.Tree.{Tree, Trees, Int, Appl, Items, Hole, none, more, tree_eq}
 use Rattle.rx_term.proofs.TreeLemmas.{same_tree, tree_eq_same}
-use Rattle.rx_look.proofs.OrderLemmas.{all_append, all_inserted, any_more}
+use Rattle.rx_render.proofs.OrderLemmas.{all_append, all_inserted, any_more}
 use Rattle.rec_stuck.specs.Stuck.{applications, applications_all, different}
 
 -- ---- trees among others

@@ -11,7 +11,7 @@ use Rattle.rx_term.specs.Store.{Store, tree_at}
 use Rattle.rx_term.specs.Walks.{held_tree}
 use Rattle.rx_term.specs.declared.Term.{Term}
 use Rattle.rx_term.proofs.TreeLemmas.{same_tree, tree_eq_same}
-use Rattle.rx_look.proofs.OrderLemmas.{any_map, map_insert}
+use Rattle.rx_render.proofs.OrderLemmas.{any_map, map_insert}
 use Rattle.rec_stuck.specs.Stuck.{applications, different}
 use Rattle.rec_stuck.specs.Inner.Visits.{AreThere, CanVisit, Enters, Walked, left_by, left_by_all, place_of}
 use Rattle.rec_stuck.specs.Inner.Visits.{reference, trees_of, visits_by, visits_by_all}

@@ -8,7 +8,7 @@ use crate::mapped::Mapped;
 use crate::report::Outcome;
 use crate::screen::Look;
 use rec_check::{Diagnostic, Examination, Judgement, Kind, Rule, examine, run_check};
-use recw_words::{CheckOptions, Finding, Form, Listed, STANDARD_INPUT, TextName, list_findings};
+use recw_cli::{CheckOptions, Finding, Form, Listed, STANDARD_INPUT, TextName, list_findings};
 use rx_run::{Reason, RunFault, read_all_from};
 use rx_text::Input;
 use std::alloc::{AllocError, Global};

@@ -6,7 +6,7 @@ use crate::item::{element_of_terms, item_of_args};
 use crate::recorded::Recorded;
 use crate::report::Outcome;
 use crate::screen::Look;
-use recw_words::{
+use recw_cli::{
     Form, Given, Invocation, Item, NamedRefusal, Request, STANDARD_INPUT, TextName, Texts, Which,
     explain_given, explain_part, explain_place, explain_trouble, explain_whole,
 };

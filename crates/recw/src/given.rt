@@ -1,6 +1,6 @@
 //! Input terms given with `-e`.
 
-use recw_words::Given;
+use recw_cli::Given;
 use rx_run::{RunFault, print_term};
 use std::alloc::Global;
 use std::io;

@@ -1,6 +1,6 @@
 //! The input of a run.
 
-use recw_words::STANDARD_INPUT;
+use recw_cli::STANDARD_INPUT;
 use std::fs::File;
 use std::io;
 use std::io::{ErrorKind, Read};

@@ -1,7 +1,7 @@
 //! The list item that causes an error without an offset.
 
 use rec_run::refused_term;
-use recw_words::Item;
+use recw_cli::Item;
 use rx_run::{Misfit, refused_argument};
 use std::alloc::Global;
 

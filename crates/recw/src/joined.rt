@@ -7,7 +7,7 @@ use crate::program::{evaluate_beside, evaluate_text};
 use crate::work::Work;
 use rec_join::{JoinFault, Joined, Origin};
 use rec_run::RunReport;
-use recw_words::STANDARD_INPUT;
+use recw_cli::STANDARD_INPUT;
 use rx_run::{Ending, Reason, Refusal, RunFault, Source};
 use std::io::{Read, Write};
 use std::rt::Files;

@@ -56,7 +56,7 @@ mod uses;
 mod work;
 
 use program::program;
-use recw_words::{Guarded, Prompt};
+use recw_cli::{Guarded, Prompt};
 use screen::Terminal;
 use std::alloc::Global;
 use std::env;
@@ -70,7 +70,7 @@ const OUT_CAPACITY: usize = 65_536;
 fn main(rt: HostRuntime) -> ExitCode {
     let status = match start(&rt, rt.alloc()) {
         Ok(status) => status,
-        Err(error) => recw_words::failed_start(&error, &mut Terminal::new(&rt, rt.alloc())),
+        Err(error) => recw_cli::failed_start(&error, &mut Terminal::new(&rt, rt.alloc())),
     };
     ExitCode::from(status)
 }

@@ -1,9 +1,9 @@
 //! Conversion of command-line options to the options of runs.
 
-use rec_look::{Picked, TraceOptions};
 use rec_run::{LimitLines, RunOptions, RunSettings, ValueForm};
 use rec_serve::ServeSettings;
-use recw_words::{EvalOptions, RulePlace, Shown};
+use rec_trace_run::{Picked, TraceOptions};
+use recw_cli::{EvalOptions, RulePlace, Shown};
 
 /// Returns the limits of a run.
 fn run_options(options: EvalOptions) -> RunOptions {
@@ -54,8 +54,8 @@ fn picks(shown: Shown<'_>) -> Picked<'_> {
 }
 
 /// Returns the location of the rule that a trace shows.
-fn rule_place(place: RulePlace) -> rec_look::RulePlace {
-    rec_look::RulePlace {
+fn rule_place(place: RulePlace) -> rec_trace_run::RulePlace {
+    rec_trace_run::RulePlace {
         line: place.line,
         column: place.column,
     }

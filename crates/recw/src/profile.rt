@@ -1,8 +1,8 @@
 //! The report of `--profile`: the uses of each rule, steps and cells.
 
-use rec_look::{Spot, rule_spots};
 use rec_run::{Profiler, RuleCount, Tally};
 use rec_sorts::Checked;
+use rec_trace_run::{Spot, rule_spots};
 use std::alloc::Global;
 use std::io;
 use std::io::Write;

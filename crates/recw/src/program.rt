@@ -16,9 +16,9 @@ use crate::uses::list_uses;
 use crate::work::{Calls, Firings, Values, Work};
 use rec_run::{NoTerms, Observer, RunReport, Unwatched};
 use rec_stuck::StuckReport;
-use recw_words::status::{eval_status, match_status};
-use recw_words::{Asked, EvalOptions, Invocation, Request, STANDARD_INPUT, read_words};
-use rx_look::{run_aterm_indented, run_share_dot};
+use recw_cli::status::{eval_status, match_status};
+use recw_cli::{Asked, EvalOptions, Invocation, Request, STANDARD_INPUT, read_words};
+use rx_render::{Indentation, run_aterm_indented, run_share_dot};
 use rx_run::{Ending, RunFault, Source, make_term, match_term, print_term, share_term};
 use rx_text::Input;
 use std::alloc::Global;
@@ -189,7 +189,13 @@ fn run_on_text<R: Read, W: Write>(
         Request::Aterm {
             indent: Some(indent),
             ..
-        } => run_aterm_indented(alloc, text, indent, out),
+        } => {
+            let indentation = Indentation {
+                indent,
+                width: None,
+            };
+            run_aterm_indented(alloc, text, indentation, out)
+        }
         _ => print_term(alloc, text, out),
     }
 }

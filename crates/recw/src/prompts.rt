@@ -1,6 +1,6 @@
 //! What is shown while standard input is typed at a terminal.
 
-use recw_words::{Invocation, Request, STANDARD_INPUT};
+use recw_cli::{Invocation, Request, STANDARD_INPUT};
 use std::io;
 use std::io::{Read, Write};
 

@@ -1,7 +1,7 @@
 //! The line on standard error that reports how a run ended, and the exit statuses.
 ghost use Rattle.std.specs.Prelude.{◌≡◌, ◌≢◌, ◌↔◌, ◌⊎◌, IsErr, IsOk, Ok, Err};
 
-use recw_words::status::{DONE, OUT_OF_ROOM, REFUSED, STREAMS};
+use recw_cli::status::{DONE, OUT_OF_ROOM, REFUSED, STREAMS};
 use rx_run::{Ending, Refusal, RunFault};
 use std::io::Write;
 

@@ -2,7 +2,7 @@
 
 use crate::progress::Progress;
 use rec_run::Watch;
-use recw_words::{Audience, Console, Request};
+use recw_cli::{Audience, Console, Request};
 use std::alloc::Global;
 use std::env::{Env, FillError};
 use std::io::{self, IsTerminal, Stderr, Write};

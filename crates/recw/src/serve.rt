@@ -7,7 +7,7 @@ use crate::options::serve_settings;
 use crate::recorded::Recorded;
 use rec_serve::{Listener, Refusal, ServeFault, run_serve};
 use rec_sorts::Checked;
-use recw_words::{EvalOptions, NamedRefusal, TextName, Texts, Which, explain_given, explain_place};
+use recw_cli::{EvalOptions, NamedRefusal, TextName, Texts, Which, explain_given, explain_place};
 use rx_run::{Ending, Reason, RunFault, Source};
 use rx_text::LONGEST;
 use std::alloc::Global;

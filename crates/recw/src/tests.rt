@@ -25,7 +25,7 @@ use crate::program::program;
 use crate::screen::{Look, Screen};
 use crate::shelf::Shelf;
 use rec_run::Unwatched;
-use recw_words::{Audience, Console, Request};
+use recw_cli::{Audience, Console, Request};
 use std::alloc::Global;
 use std::io::{Read, Sink, Write};
 use std::process::Abort;

@@ -5,7 +5,7 @@ use crate::evidence::Evidence;
 use crate::report::Outcome;
 use rec_check::check_text;
 use rec_uses::{Spot, UsesSettings, run_uses};
-use recw_words::{RulePlace, TextName};
+use recw_cli::{RulePlace, TextName};
 use rx_run::{RunFault, Source};
 use std::io::{Read, Write};
 use std::rt::Files;

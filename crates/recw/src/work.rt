@@ -1,10 +1,10 @@
 //! The kinds of runs over a specification and input terms.
 
 use crate::options::{run_settings, trace_options};
-use rec_look::run_trace;
 use rec_run::{InputTerms, Observer, Profiler, RunReport, Unwatched, Watch, run_given};
 use rec_stuck::{StuckReport, run_stuck};
-use recw_words::{EvalOptions, Shown};
+use rec_trace_run::run_trace;
+use recw_cli::{EvalOptions, Shown};
 use rx_run::RunFault;
 use std::alloc::Global;
 use std::io::{Read, Write};

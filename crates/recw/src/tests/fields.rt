@@ -1,6 +1,6 @@
 //! Tests that each option sets its field.
 
-use recw_words::{Asked, EvalOptions, Request, read_words};
+use recw_cli::{Asked, EvalOptions, Request, read_words};
 use std::alloc::Global;
 use std::process::Abort;
 use std::rt::Files;

@@ -1,7 +1,7 @@
 //! Tests of hints about texts with syntax errors.
 
 use rec_syntax::{SyntaxFault, read_spec};
-use recw_words::{find_hint, find_term_hint};
+use recw_cli::{find_hint, find_term_hint};
 use std::alloc::Global;
 use std::process::Abort;
 

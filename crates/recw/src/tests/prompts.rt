@@ -1,7 +1,7 @@
 //! Tests of what is shown while standard input is typed at a terminal.
 
 use crate::prompts::Typed;
-use recw_words::{Asked, read_words};
+use recw_cli::{Asked, read_words};
 use std::alloc::Global;
 use std::io;
 use std::io::{Read, Write};

@@ -1,7 +1,7 @@
 //! Tests of messages on a terminal, and of early flushes.
 
 use crate::tests::{ADDITION, run_before};
-use recw_words::{Console, Prompt};
+use recw_cli::{Console, Prompt};
 use std::alloc::Global;
 use std::io;
 use std::io::{ErrorKind, Write};

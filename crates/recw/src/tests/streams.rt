@@ -3,7 +3,7 @@
 use crate::program::program;
 use crate::shelf::Shelf;
 use crate::tests::{ADDITION, Ran, Row, run_over};
-use recw_words::{Console, failed_start};
+use recw_cli::{Console, failed_start};
 use std::alloc::Global;
 use std::io;
 use std::io::{ErrorKind, Read, Write};

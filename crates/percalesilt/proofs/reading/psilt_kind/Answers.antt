@@ -1,9 +1,9 @@
 use Rattle.std.proofs.Common.{ℕ, ℤ, Some, sym, ap, ◌∙◌}
 use Rattle.rx_term.specs.Store.{Store}
-use Rattle.psilt_work.specs.Banks.{store_of}
-use Rattle.psilt_work.specs.Answers.{term_of, Looks, HasKindNumber}
-use Rattle.psilt_work.specs.Codes.{told}
-use Rattle.psilt_work.specs.declared.work.Work.{Work}
+use Rattle.psilt_core.specs.Banks.{store_of}
+use Rattle.psilt_core.specs.Answers.{term_of, Looks, HasKindNumber}
+use Rattle.psilt_core.specs.Codes.{told}
+use Rattle.psilt_core.specs.declared.work.Work.{Work}
 use Rattle.percalesilt.proofs.BankLemmas.{in_bank}
 use Rattle.percalesilt.proofs.reading.psilt_kind.Goals as goal
 

@@ -1,7 +1,0 @@
-use Rattle.rx_shared.specs.State.{store_of}
-use Rattle.psilt_work.proofs.BankLemmas.{fits_made}
-use Rattle.psilt_work.proofs.bank.Bank.appl.Goals as goal
-
-pub invariant_of-self : goal.invariant_of-self
-invariant_of-self c = fits_made (store_of c.self.inside.shared.shared) (store_of c.appl.new.self.shared) c.self.inside.prepared c.self.inside.symbols.keys _
-    c.appl.result c.appl.ensures c.self.invariant

@@ -1,5 +1,0 @@
-use Rattle.rec_look.proofs.DueLemmas.{one_trace_due_for}
-use Rattle.rec_look.proofs.laws.one_trace_due.Goals as goal
-
-pub returns : goal.returns
-returns c = one_trace_due_for

@@ -1,5 +1,0 @@
-use Rattle.rec_look.proofs.LawLemmas.{values_law_for}
-use Rattle.rec_look.proofs.laws.values_law.Goals as goal
-
-pub returns : goal.returns
-returns c = values_law_for

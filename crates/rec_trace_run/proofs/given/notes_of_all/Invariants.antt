@@ -1,0 +1,14 @@
+use Rattle.std.proofs.Common.{◌≡◌, Some, drop, take}
+use Rattle.rx_term.specs.Store.{tree_at}
+use Rattle.rx_term.specs.Tree.{from_list, list_of}
+use Rattle.rec_sorts.specs.Numbering.{Pairwise}
+use Rattle.rec_run.specs.GivenTerms.{given_at}
+use Rattle.rec_trace_run.specs.Inner.Telling.{HasNotes}
+use Rattle.rec_trace_run.proofs.given.notes_of_all.Given as goal
+
+-- the texts so far were made, and the rest of the list is left
+abbrev pub invariant-loop-index : goal.invariant-loop-index
+invariant-loop-index g l = record {
+  left : tree_at (g.B.TermBank.store l.bank) l.rest ≡ Some (list_of (from_list (drop l._index (given_at (g.B.TermBank.store l.bank) l.fn.list))));
+  made : Pairwise HasNotes l.notes.items (take l._index (given_at (g.B.TermBank.store l.bank) l.fn.list));
+}

@@ -1,6 +1,0 @@
-use Rattle.rx_look.proofs.GraphLemmas.{own_links}
-use Rattle.rx_look.proofs.PartLemmas.{lists_parts}
-use Rattle.rx_look.proofs.laws.graph_nodes.Goals as goal
-
-pub returns : goal.returns
-returns c = record { parts = lists_parts; links = own_links }

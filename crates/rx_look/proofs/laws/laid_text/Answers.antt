@@ -1,5 +1,0 @@
-use Rattle.rx_look.proofs.LaidLemmas.{laid_spells}
-use Rattle.rx_look.proofs.laws.laid_text.Goals as goal
-
-pub returns : goal.returns
-returns c = record { spells = laid_spells }

@@ -1,8 +1,0 @@
-use Rattle.std.proofs.Common.{◌≡◌, length}
-use Rattle.store_rows.proofs.arena.drain_gray.Given as goal
-
-abbrev pub invariant-loop-slot : goal.invariant-loop-slot
-invariant-loop-slot l = l.arena ≡ record l.initial.arena { gray = l.arena.gray }
-
-abbrev pub decreases-loop-slot : goal.decreases-loop-slot
-decreases-loop-slot l = length l.arena.gray

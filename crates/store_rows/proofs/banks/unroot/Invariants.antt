@@ -1,5 +1,0 @@
-use Rattle.std.proofs.Common.{◌≡◌, ◌+◌}
-use Rattle.store_rows.proofs.banks.unroot.Given as goal
-
-abbrev pub invariant-loop-i : goal.invariant-loop-i
-invariant-loop-i g l = (g.B.TermBank.store l.bank).roots l.a.0 + l._i ≡ 65535
