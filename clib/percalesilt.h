@@ -6,16 +6,16 @@
  * A handle has one store. A term is known by its reference, a number of 32 bits: two references of one handle are the
  * same number exactly if their terms are equal, annotations included. References are numbers of one handle: in another
  * handle the same number means another term, or none. A reference stays valid from the call that made it until a call
- * that frees its term: psilt_reclaim, psilt_normalise, psilt_eval_term or psilt_close. Its number may then be given to
- * another term. The first three free no part of a protected term.
+ * that frees its term: psilt_reclaim, psilt_normalise, psilt_call, psilt_eval_term or psilt_close. Its number may then
+ * be given to another term. The first four free no part of a protected term.
  *
  * Each call returns a code, PSILT_OK if it is done. A call writes through its out pointers if it returns PSILT_OK, and
  * only then. After any other code the handle is as it was before the call, with these exceptions:
  *  - PSILT_SYNTAX and PSILT_RULE set what psilt_place and psilt_rule return.
- *  - psilt_read, psilt_appl, psilt_apply and psilt_make may leave parts of the term, and names, after PSILT_NOMEM and
- *    PSILT_FULL; psilt_symbol and psilt_spec may leave names.
+ *  - psilt_read, psilt_read_table, psilt_appl, psilt_apply and psilt_make may leave parts of the term, and names, after
+ *    PSILT_NOMEM and PSILT_FULL; psilt_read_table also after PSILT_RULE; psilt_symbol and psilt_spec may leave names.
  *  - psilt_match may leave lists without their annotations, whatever it returns.
- *  - psilt_normalise and psilt_eval_term may free terms, may leave new ones, and forget bindings.
+ *  - psilt_normalise, psilt_call and psilt_eval_term may free terms, may leave new ones, and forget bindings.
  *
  * If several codes would fit, the first one of this list is returned:
  *  1. PSILT_CLOSED, PSILT_OPEN
@@ -159,8 +159,8 @@ psilt_code psilt_reserve(psilt *p, uint32_t count);
 
 /* ---- names. A name counts once for each number of arguments, and once more if it is also used with quotes. Names are
  * freed by psilt_close alone: each takes about 100 bytes and its own bytes until then, even if no term has it any more,
- * and even if the call that added it then fails. These calls can add names: psilt_read, psilt_appl, psilt_symbol,
- * psilt_make and psilt_spec. */
+ * and even if the call that added it then fails. These calls can add names: psilt_read, psilt_read_table, psilt_appl,
+ * psilt_symbol, psilt_make and psilt_spec. */
 
 /* How many names there are. */
 psilt_code psilt_names(psilt *p, uint32_t *out);
@@ -185,8 +185,8 @@ psilt_code psilt_read(psilt *p, const uint8_t *text, size_t len, psilt_term *out
 psilt_code psilt_place(psilt *p, uint32_t *out);
 
 /* Which rule was violated last: 1 to 11 of a specification, S1 to S11, 2 to 6 of a term, T2 to T6, 1 and 2 of a
- * pattern, P1 and P2. 0 if a text that was refused since is outside its grammar, and before any was. For the rules of
- * terms and of patterns there is no place. */
+ * pattern, P1 and P2, or of a table, R1 and R2. 0 if a text that was refused since is outside its grammar, and before
+ * any was. The rules of terms, patterns and tables have no place: psilt_place returns what it did before. */
 psilt_code psilt_rule(psilt *p, uint32_t *out);
 
 /* Prints a term, and returns the length of its printed text in bytes; no 0 ends it. psilt_text copies the text, which
@@ -202,6 +202,31 @@ psilt_code psilt_print_within(psilt *p, psilt_term term, size_t most, size_t *le
 /* Copies the bytes of the last print or name to the front of a buffer of size bytes. PSILT_RANGE if the buffer is
  * shorter than they are. */
 psilt_code psilt_text(psilt *p, uint8_t *buffer, size_t size);
+
+/* ---- tables. A table is a term written with one element for each subterm that it shares, so its text grows with the
+ * number of different subterms, however often they occur. A table is an ordinary term, a list whose last element is the
+ * term. In an element, `<k>` is the element with the number k, counted from 0, which comes earlier in the list, and a
+ * placeholder `<t>` of the term is written `<[t]>`. So f(pair(a,b),pair(a,b),<7>) has the table
+ * [pair(a,b),f(<0>,<0>,<[7]>)]. */
+
+/* Prints the table of a term as psilt_print prints a term: its length in bytes is returned, and psilt_text copies it.
+ * There is an element for each subterm that the different subterms use at least twice and whose text has more than 8
+ * bytes, each after those inside of it, from left to right. So equal terms have equal tables, also in different
+ * handles, and other terms have other tables. PSILT_STALE; PSILT_NOMEM, also if the table would take more than
+ * 1,073,741,824 cells: it is made in a store of its own, which is freed. */
+psilt_code psilt_print_table(psilt *p, psilt_term term, size_t *len);
+
+/* The term of the table that a text of len bytes spells. Any table is taken, also one with elements that nothing uses.
+ * PSILT_RANGE if the text has more than 16,777,216 bytes; PSILT_SYNTAX if it is outside the grammar of terms:
+ * psilt_place returns where; PSILT_RULE if it is not a list without annotations that has an element, for which
+ * psilt_rule returns 1 (R1), else if a placeholder is neither the number of an earlier element nor a list of one item,
+ * or such a number, its placeholder or such a list has annotations, for which it returns 2 (R2); PSILT_NOMEM;
+ * PSILT_FULL. May add names.
+ *
+ * The text is read into a store of its own, which is freed. In the store of the handle the terms of all elements are
+ * made, with the cells that psilt_read needs for them, and the numbers and lists that are in placeholders of the table,
+ * which a collection frees. */
+psilt_code psilt_read_table(psilt *p, const uint8_t *text, size_t len, psilt_term *out);
 
 /* ---- make. Each returns PSILT_STALE if a reference is not valid, and PSILT_NOMEM or PSILT_FULL if the term is not
  * there yet and there is no room for it. */
@@ -340,6 +365,20 @@ psilt_code psilt_spec_free(psilt *p);
  * evaluates or reclaims, unless it is protected. Adds no name. */
 psilt_code psilt_normalise(psilt *p, psilt_term term, uint64_t steps, psilt_term *value,
                            uint64_t *taken);
+
+/* The value of the call of a symbol on count values, and the number of its steps. The values are not evaluated: each
+ * stands for itself, whatever it is, so nothing walks it, and the time is that of count and of the steps. If they
+ * have only constructors and no annotations, psilt_normalise of the application gives the same. PSILT_UNSPECIFIED;
+ * PSILT_UNKNOWN if no symbol has the number; PSILT_RANGE if it has another number of arguments than count;
+ * PSILT_STALE; PSILT_RULE if the call itself violates a rule of terms: 4 if no symbol with this name and these quotes
+ * is declared, 5 if it is with another number of arguments, 6 if an argument is of another sort than declared, which
+ * is that of the symbol at its root; PSILT_LIMIT if it needs more than steps steps, or has no value; PSILT_NOMEM;
+ * PSILT_FULL if no cell is left after a collection: for the application of the symbol to the values, which is made
+ * first; or for the evaluation, after the table of results was emptied too. It frees what neither a protected term
+ * nor it itself needs. The values stay in any case, and the result until the next call that evaluates or reclaims,
+ * unless it is protected. psilt_interrupt does not stop it. Adds no name. */
+psilt_code psilt_call(psilt *p, size_t symbol, const psilt_term *args, size_t count,
+                      uint64_t steps, psilt_term *value, uint64_t *taken);
 
 /* How many EVAL terms there are; the one of number i, from 0, which stays as a value does. PSILT_UNSPECIFIED;
  * PSILT_RANGE if there are i or fewer; PSILT_NOMEM; PSILT_FULL if no cell is left after a collection that kept only

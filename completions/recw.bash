@@ -18,11 +18,11 @@ _recw_commands=(
     'help command'
 )
 declare -A _recw_options=(
-    [eval]='-e=TERM --term=TERM --join=FILE --steps=N --cells=C --memo=M --reclaim=K --depth=D --bytes=B --count --limit-annotations --limit-status --stuck --profile --progress --explain'
-    [serve]='--steps=N --cells=C --memo=M --reclaim=K --depth=D --bytes=B --count --explain'
-    [trace]='--steps=N --cells=C --count --whole --width=W --first=N --last=N --rule=LINE:COL --symbol=NAME --explain'
-    [aterm]='--explain --indent=N'
-    [share]='--explain --dot --nodes=N'
+    [eval]='-e=TERM --input=TERM --only-terms --term=N --join=FILE --steps=N --cells=C --memo=M --reclaim=K --depth=D --bytes=B --to-table --count --sizes --dot=N --nodes=N --limit-annotations --limit-status --stuck --profile --progress --explain'
+    [serve]='--steps=N --cells=C --memo=M --reclaim=K --depth=D --bytes=B --to-table --count --explain'
+    [trace]='-e=TERM --input=TERM --term=N --steps=N --cells=C --count --whole --width=W --first=N --last=N --rule=LINE:COL --symbol=NAME --rules --explain'
+    [aterm]='--explain --indent=N --width=W --from-table --to-table --bytes=B'
+    [share]='--explain --dot --nodes=N --from-table --to-table'
     [match]='--test --explain'
     [make]='--explain'
     [check]='--strict --join=FILE --format=gnu|json --explain'

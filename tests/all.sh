@@ -27,6 +27,7 @@ hostile.py "$PROGRAM" texts conversations checks
 stuck.py "$PROGRAM"
 uses.py "$PROGRAM"
 join.py "$PROGRAM"
+tables.py "$PROGRAM"
 dot.py "$PROGRAM"
 editors.py "$PROGRAM"
 mistakes.py "$PROGRAM"

@@ -2,6 +2,7 @@
 """Tries the C library: clib.py [PART..].
 
     every       each call from C, as C99 and as C++, and under the compiler's sanitizers; a small evaluator in C
+    calls       an operator is called 1,000 times on a value of 2^60 leaves, within a second and 100 MB
     stop        evaluations that another thread and a signal handler of a program in C stop
     header      the header alone, by each standard from C99 and from C++11 on, without a warning of gcc or of clang
     refused     each request for memory refused, in each call that makes requests
@@ -21,10 +22,12 @@ kit is needed; without both rt builds the archive anew if it has to.
 
 import os
 import re
+import resource
 import shutil
 import subprocess
 import sys
 import tempfile
+import time
 
 from common import TOP, done, same
 
@@ -33,11 +36,13 @@ from released import lack_of
 
 USERS = f"{TOP}/clib/users"
 BUILD = f"{TOP}/clib/build"
-USUAL = ("every", "stop", "header", "refused", "python", "types", "threads", "terms", "rust", "random")
+USUAL = ("every", "calls", "stop", "header", "refused", "python", "types", "threads", "terms", "rust", "random")
 WARNINGS = ["-Wall", "-Wextra", "-Wpedantic", "-Werror"]
 STANDARDS = {"c": "c99 c11 c17", "c++": "c++11 c++14 c++17 c++20"}
 COMPILERS = {"gcc": "c", "clang": "c", "g++": "c++", "clang++": "c++"}
 WRAPPED = ["-Wl,--wrap=malloc,--wrap=realloc,--wrap=free"]
+# what make is told for the archive as it is
+AS_IT_IS = ["PROVE=:"]
 
 
 def is_there(part, *commands):
@@ -74,6 +79,16 @@ def every(folder):
     if is_there("every as C++", "c++"):
         program = compiled(folder, "every", language="c++", standard="c++17", compiler="c++")
         same("every.c as C++", "all as wanted", told([program]))
+
+
+def calls(folder):
+    if is_there("calls", "cc"):
+        # 60 nodes of three cells each, and `leaf` with the empty list
+        program, limit = compiled(folder, "call"), (100_000_000, 100_000_000)
+        begun = time.monotonic()
+        answer = told([program], preexec_fn=lambda: resource.setrlimit(resource.RLIMIT_AS, limit))
+        same("call.c", "60 steps, 182 cells\n1000 steps", answer)
+        same("call.c within a second", True, time.monotonic() - begun < 1)
 
 
 def stop(folder):
@@ -159,6 +174,7 @@ def valgrind(folder):
 def install(folder):
     if is_there("install", "make", "cc", "pkg-config"):
         words = ["make", "-s", "-C", f"{TOP}/clib", "install", f"PREFIX={folder}/installed"]
+        words += AS_IT_IS if sys.argv[1:2] == ["built"] else []
         subprocess.run(words, check=True, stdout=subprocess.DEVNULL)
         place = {**os.environ, "PKG_CONFIG_PATH": f"{folder}/installed/lib/pkgconfig"}
         with open(f"{TOP}/clib/percalesilt.h", encoding="utf-8") as file:
@@ -174,7 +190,7 @@ def install(folder):
 
 def main():
     words = sys.argv[1:]
-    way = {"built": ["PROVE=:"], "released": ["released"]}.get(words[0] if words else "")
+    way = {"built": AS_IT_IS, "released": ["released"]}.get(words[0] if words else "")
     lack = lack_of("libpercalesilt.a") or lack_of("libpercalesilt.so") if way == ["released"] else ""
     if lack:
         print(f"not tried: the C library, since {lack}")

@@ -3,7 +3,8 @@
 
 A graph has as many nodes as `share` counts cells, in the order in which they are found level by level, and the term
 that is read off its nodes and edges is the one that `aterm` prints. Of a graph that is cut short the first nodes stay,
-with the edges among them. Where Graphviz is here it draws each of the texts in TERMS.
+with the edges among them. Where Graphviz is here it draws each of the texts in TERMS. The graph and the size that
+`eval` prints of a value are those of its text.
 """
 
 import glob
@@ -155,6 +156,27 @@ def try_refused():
             subprocess.run(words, input=text, text=True, capture_output=True, check=False) for words in asked)))
 
 
+def try_values():
+    """Each value of the examples, and one with 2^60 leaves."""
+    for name in ("add", "derive", "lambda", "q", "tautology", "while"):
+        words = [program(), "eval", f"{TOP}/examples/{name}.rec", f"{TOP}/examples/{name}.trm"]
+        for number, line in enumerate(run([*words, "--sizes"]).splitlines(), 1):
+            if not line.startswith("!"):
+                value, size = line.rsplit("\t", 1)
+                same(f"size of value {number} of {name}", cells(value), int(size))
+                same(f"graph of value {number} of {name}", graph(value), run([*words, "--dot", str(number)]))
+    leaves = f"d({'s(' * 60}z{')' * 60}){{id(7)}}"
+    words = [program(), "eval", "-e", leaves, f"{TOP}/examples/tutorial/double.rec"]
+    drawn = Graph(run([*words, "--dot", "2"]))
+    table, size = run([*words, "--only-terms", "--to-table", "--sizes"]).split("\t")
+    same("nodes of 2^60 leaves", 3 * 60 + 2 + 4, len(drawn.labels))
+    same("cells of 2^60 leaves", 3 * 60 + 2 + 4, int(size))
+    doubles = "".join(f",node(<{it}>,<{it}>)" for it in range(59))
+    same("table of 2^60 leaves", f"[node(leaf,leaf){doubles}{{id(7)}}]", table)
+    request = run([program(), "serve", "--to-table", f"{TOP}/examples/tutorial/double.rec"], input=leaves)
+    same("response with 2^60 leaves", f"{table}\n", request)
+
+
 def try_drawing():
     if not shutil.which("dot"):
         print("not tried: Graphviz is not here")
@@ -174,6 +196,7 @@ def main():
     try_random()
     try_deep()
     try_refused()
+    try_values()
     try_drawing()
     done()
 

@@ -221,6 +221,30 @@ def check_made(rows_of_table):
         same(f"{words}", (0, f"{quoted(output)[0]}\n", ""), recw(*words))
 
 
+def check_opened(rows_of_table):
+    for table, term in rows_of_table:
+        wanted = (0, f"{quoted(term)[0]}\n", "")
+        same(f"aterm --from-table {table}", wanted, recw("aterm", "--from-table", text=quoted(table)[0]))
+
+
+def check_tables(rows_of_table):
+    for term, table in rows_of_table:
+        term, table = quoted(term)[0], quoted(table)[0]
+        same(f"aterm --to-table {term}", (0, f"{table}\n", ""), recw("aterm", "--to-table", text=term))
+        same(f"aterm --from-table {table}", (0, f"{term}\n", ""), recw("aterm", "--from-table", text=table))
+    leaves = "[node(leaf,leaf)" + "".join(f",node(<{it}>,<{it}>)" for it in range(59)) + "]"
+    same("bytes of a table of 2^60 leaves", 941, len(leaves))
+    same("a table of 2^60 leaves", (0, f"{leaves}\n", ""), recw("aterm", "--from-table", "--to-table", text=leaves))
+    same("2^60 leaves", (0, "!bytes 16777216\n", ""), recw("aterm", "--from-table", text=leaves))
+
+
+def check_no_tables(rows_of_table):
+    for code, _, texts, _ in rows_of_table:
+        for text in quoted(texts):
+            for words in (("aterm", "--from-table"), ("share", "--from-table", "--to-table"), ("share", "--from-table", "--dot")):
+                same(f"{words} {text}", (1, f"!term {quoted(code)[0]}\n", ""), recw(*words, text=text))
+
+
 SECTIONS = "SORTS|CONS|OPNS|VARS|RULES|EVAL|END-SPEC"
 # The offset of the error in each changed part of examples/q.rec.
 LOCATIONS = {
@@ -326,6 +350,9 @@ def check_reference(room):
         ("Error", "Meaning", "Examples", "Fix"): check_patterns,
         ("Pattern", "Term", "Output of `recw match`"): check_matches,
         ("Error", "Meaning", "Pattern", "Arguments", "Fix"): check_arguments,
+        ("Error", "Meaning", "Texts", "Fix"): check_no_tables,
+        ("Table", "Term"): check_opened,
+        ("Term", "Table"): check_tables,
         ("Pattern", "Arguments", "Output of `recw make`"): check_made,
         ("Specification", "Offset of error `G`"): check_outside_specifications,
         ("Error", "Violation", "Locations", "Examples", "Fix"): check_rules,

@@ -56,6 +56,8 @@ WORDS = {
     "P2": "placeholder with annotations",
     "M1": "wrong number of arguments for the pattern",
     "M2": "argument that does not match its placeholder",
+    "R1": "table that is not a list without annotations, or has no element",
+    "R2": "placeholder of a table that is not <N>, N being an earlier element, nor <[TERM]>",
 }
 
 
@@ -63,7 +65,7 @@ def check_refusals():
     """Compares the errors in words, and those that the reference has with an example and a fix."""
     told = dict(line.split(None, 1) for line in run([program(), "help", "refusals"]).splitlines())
     same("errors in words", WORDS, told)
-    named = {it for name in REFERENCE for it in re.findall(r"`([LGASPTM]\d*)`", text_of(name))}
+    named = {it for name in REFERENCE for it in re.findall(r"`([LGASPTMR]\d*)`", text_of(name))}
     same("errors of the reference", set(told), named)
     # L1 and G are explained in paragraphs
     mended = {"`L1`", "`G`"}
@@ -109,7 +111,7 @@ WRONG = (
     "eval --steps ''", "eval --steps ' 3'", "eval --steps 0x3", "eval --count --count", "eval --explain --explain",
     "eval - -", "eval -e", "eval add.rec add.trm -e z", "eval --strict", "eval --whole add.rec", "eval --test",
     "--steps 3", "--explain", "serve", "serve -", "serve - -", "serve -e z add.rec", "serve --limit-status add.rec",
-    "serve --stuck add.rec", "serve --progress add.rec", "trace", "trace - -", "trace -e z add.rec",
+    "serve --stuck add.rec", "serve --progress add.rec", "trace", "trace - -", "trace -e z add.rec add.trm",
     "trace --memo 0 add.rec", "trace --stuck add.rec", "trace --profile add.rec", "trace --width 2 add.rec",
     "trace --width x add.rec", "trace --last 1073741825 add.rec", "trace --first -1 add.rec", "trace --rule 3 add.rec",
     "trace --rule 3:5:7 add.rec", "trace --rule 0:1 add.rec", "trace --rule 3: add.rec", "trace --rule x add.rec",
@@ -120,7 +122,17 @@ WRONG = (
     "match --limit-status a", "uses - -", "uses a b", "uses --at 3", "uses --at 3:5:7", "uses --at 0:1", "uses --at x:1",
     "uses --at 3:5 --at 4:5", "uses --explain", "uses --rule 3:5", "join", "join - -", "join --explain add.rec",
     "eval --join", "eval --join -", "eval --join - add.rec -", "check --join - -", "serve --join add.rec add.rec",
-    "check --join add.rec --format gnu add.rec", "check --explain --join add.rec add.rec",
+    "eval --only-terms add.rec", "eval --only-terms --term 1 add.rec add.trm", "eval --term 0 add.rec",
+    "eval --term z add.rec", "eval --term 1 --term 2 add.rec", "eval --term 1000000000000000001 add.rec",
+    "serve --term 1 add.rec", "serve --only-terms add.rec", "trace --only-terms add.rec add.trm",
+    "trace --term -1 add.rec", "trace --rule 3:5 add.rec", "trace --rule 12:4 add.rec", "trace --symbol pls add.rec",
+    "trace --symbol X add.rec", "trace --symbol '' add.rec", "trace --rules --rules add.rec", "aterm --width 8",
+    "aterm --indent 2 --width 0", "aterm --indent 2 --width x", "aterm --indent 2 --to-table",
+    "aterm --indent 2 --from-table", "aterm --indent 2 --width 9 --from-table", "aterm --to-table --bytes 3",
+    "aterm --bytes 1000000000000000001", "aterm --bytes x", "aterm --to-table --to-table", "share --from-table",
+    "aterm --width 8 --to-table", "share --nodes 5 --to-table", "share --dot --to-table",
+    "share --from-table --dot --to-table", "share --to-table --bytes 3", "match --from-table a",
+ "eval --input z add.rec add.trm", "eval --input",
 )
 # Words, others that do the same, and the text on standard input.
 EQUAL = (
@@ -135,6 +147,14 @@ EQUAL = (
     ("eval add.rec -- add.trm", "eval add.rec add.trm", "examples/add.trm"),
     ("eval add.rec -", "eval add.rec add.trm", "examples/add.trm"),
     ("eval -e 'plus(z,s(z))' add.rec", "eval add.rec add.trm", "examples/add.trm"),
+    ("eval --input='plus(z,s(z))' add.rec", "eval add.rec add.trm", "examples/add.trm"),
+    ("trace -e 'plus(z,s(z))' add.rec", "trace add.rec add.trm", "examples/add.trm"),
+    ("trace --input 'plus(z,s(z))' -", "trace add.rec add.trm", "examples/add.rec"),
+    ("aterm --width=1 --indent=2", "aterm --indent 2", "examples/add.trm"),
+    ("aterm --from-table", "aterm --from-table --bytes 16777216", "examples/add.trm"),
+    ("aterm --bytes 1000000000000000000", "aterm", "examples/add.trm"),
+    ("share --dot --from-table", "share --dot --nodes 2000 --from-table", "examples/add.trm"),
+    ("check --join join/nat.rec --format gnu join/main.rec", "check --join join/nat.rec join/main.rec", "examples/add.rec"),
     ("serve add.rec -", "serve add.rec", "examples/add.trm"),
     ("serve - add.trm", "serve add.rec add.trm", "examples/add.rec"),
     ("trace -", "trace add.rec", "examples/add.rec"),

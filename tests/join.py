@@ -7,6 +7,7 @@ name and the comments are compared with those of the parts; what `check` and `ev
 location of each word in its part, has to be what they say with --join.
 """
 
+import json
 import random
 import re
 import subprocess
@@ -55,6 +56,13 @@ def together(texts):
             for token, at in sections(text).get(section, []):
                 found.setdefault(section, []).append((token, index, at))
     return found
+
+
+def line_of(finding):
+    """The line of a finding, without what an explanation adds."""
+    place = f"{finding['file']}:{finding['line']}:{finding['column']}"
+    message = finding["message"].split("; ")[0]
+    return f"{place}: {finding['severity']}: {message} [{finding['code']}]"
 
 
 def spot(text, at):
@@ -120,6 +128,8 @@ class Join:
             if status and re.search(r" \[(?:G|L1)\]\n$", lines):
                 same(f"{what}: outside", (1, lines), recw("join", *self.names)[:2])
                 same(f"{what}: check outside", (1, lines), self.joined("check")[:2])
+                for form in (["--explain"], ["--format", "json"]):
+                    same(f"{what}: check outside {form}", recw("check", *form, name), self.joined("check", *form))
                 same(f"{what}: eval outside", recw("eval", name), self.joined("eval"))
                 return
         status, text, errors = recw("join", *self.names)
@@ -130,9 +140,9 @@ class Join:
         self.compare_comments(what, text)
         self.compare_lines(what, text)
 
-    def joined(self, command):
+    def joined(self, command, *words):
         options = [it for name in self.names[:-1] for it in ("--join", name)]
-        return recw(command, *options, self.names[-1])
+        return recw(command, *words, *options, self.names[-1])
 
     def name(self):
         return sections(self.texts[-1])["REC-SPEC"][0][0]
@@ -146,10 +156,36 @@ class Join:
             least = sum(bool(sections(part).get(section)) for section in SECTIONS)
             same(f"{what}: parts of {name}", True, least <= comments(text).count(f"% {name}") <= least + 6)
 
+    def compare_forms(self, what, lines):
+        """The other forms of `check` have the same lines, and the source lines of the parts."""
+        status, objects, _ = self.joined("check", "--format", "json")
+        rows = [json.loads(it) for it in objects.splitlines()]
+        same(f"{what}: objects", lines, [line_of(it) for it in rows])
+        same(f"{what}: status of objects", any(": error: " in it for it in lines), status == 1)
+        for it in rows:
+            text = self.texts[self.names.index(it["file"])].split("\n")
+            word = text[it["line"] - 1][it["column"] - 1 : it["end_column"] - 1]
+            same(f"{what}: a word of one line", (it["line"], True), (it["end_line"], bool(TOKEN.fullmatch(word))))
+        explained = self.joined("check", "--explain")[1].splitlines()
+        same(f"{what}: explained lines", lines, [it for it in explained if not it.startswith("    ")])
+        for number, it in enumerate(explained):
+            if it in lines:
+                self.compare_caret(what, it, explained[number + 1 : number + 3])
+
+    def compare_caret(self, what, line, shown):
+        """The source line and the caret below it are at the location in the part."""
+        name, row, column = re.match(r"(.*?):(\d+):(\d+): ", line).groups()
+        source = self.texts[self.names.index(name)].split("\n")[int(row) - 1].rstrip("\r")
+        piece = source[int(column) - 1 :][:20]
+        wanted = "".join(it if it == "\t" or " " <= it <= "~" else f"\\x{ord(it):02x}" for it in piece)
+        found = shown[0][len(shown[1]) - 1 :][: len(wanted)]
+        same(f"{what}: caret of {line}", ("^", wanted), (shown[1][-1:], found))
+
     def compare_lines(self, what, text):
         status, lines, _ = recw("check", "-", text=text)
         wanted = "".join(self.line(text, row) for row in lines.splitlines())
         same(f"{what}: check --join", (status, wanted), self.joined("check")[:2])
+        self.compare_forms(what, wanted.splitlines())
         status, lines, errors = recw("eval", "--steps", "2000", "-", text=text)
         options = [it for name in self.names[:-1] for it in ("--join", name)]
         found = recw("eval", "--steps", "2000", *options, self.names[-1])

@@ -32,7 +32,8 @@ PUBLIC = re.compile(r"^\s*pub (?:const )?(?:unsafe )?(?:extern \"C\" )?fn (\w+)"
 TRAIT = re.compile(r"^(?:pub trait|(?:unsafe )?impl\b.* for )\b")
 METHOD = re.compile(r"^ {4}(?:unsafe )?fn (\w+)")
 LISTED = "tests/meaning.txt"
-FACT = re.compile(r"^\s*pub ghost \w+:")
+# a clause of the run that a reporter observes cites what it says of a value
+FACT = re.compile(r"^\s*(?:pub ghost \w+:|ghost says =)")
 # the head of a function ends where its body begins
 BODY = re.compile(r"^\s*\{\s*\}?\s*$|^.*\)\s*(?:->\s*[^{]*)?\{\s*$|^.*;\s*$")
 

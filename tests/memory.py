@@ -20,6 +20,7 @@ CALLER = f"{TOP}/crates/test_alloc_failure/out/test_alloc_failure"
 OTHERS = (
     (["aterm", "term"], "f ( a , [ 1 , -007 ] ) { b }", "f(a,[1,-7]){b}\n"),
     (["aterm", "--indent", "2", "term"], "f(a,\"b\"){[]}", 'f(\n  a,\n  "b"\n){\n  []\n}\n'),
+    (["aterm", "--indent", "2", "--width", "8", "term"], "f(a,[1,2])", "f(\n  a,\n  [1,2]\n)\n"),
     (["share", "term"], "f(a,a)", "f(a,a)\ncells 5\n"),
     (["share", "term"], "[1,[1]]", "[1,[1]]\ncells 5\n"),
     (["share", "term"], "[a]{b}", "[a]{b}\ncells 5\n"),
@@ -40,6 +41,13 @@ OTHERS = (
         text_of("examples/add.rec"),
         "0:0: plus(s...\n12:3: s(plus...\n... 1 more\n11:3: s(s(s(...\ns(s(s(z)))\n",
     ),
+    (
+        ["trace", "--symbol", "plus", "--last", "1", "--term", "2", "-e", "plus(s(z),z)", "term"],
+        text_of("examples/add.rec"),
+        "... 1 more\n11:3: plus(z,z) -> z\ns(z)\n",
+    ),
+    (["eval", "--only-terms", "-e", "plus(z,z){n}", "-e", "z", "term"], text_of("examples/add.rec"), "z{n}\nz\n"),
+    (["eval", "--term", "2", "-e", "plus(z,z){n}", "-e", "z", "term"], text_of("examples/add.rec"), "z{n}\n"),
     (["eval", "--bytes", "10", "term"], text_of("examples/add.rec"), "s(s(s(z)))\n"),
     (["eval", "--bytes", "9", "term"], text_of("examples/add.rec"), "!bytes 9\n"),
     (["match", "f(<int>,<list>)", "term"], "f(1,2,3)", "yes\n1\n[2,3]\n"),
@@ -49,8 +57,8 @@ OTHERS = (
 )
 # One that tells of calls, with its output, and what it tells.
 CALLS = (
-    "stuck: f(z): the conditions of 2:1 fail\n"
-    "stuck: f(s(z)): no rule matches\nstuck: f(f(s(z))): no rule matches\n"
+    "stuck: term 1: f(z): the conditions of 2:1 fail\n"
+    "stuck: term 2: f(s(z)): no rule matches\nstuck: term 2: f(f(s(z))): no rule matches\n"
 )
 STUCK = (
     ["eval", "--stuck", "-e", "f(f(s(z))){n}", "term"],
@@ -61,7 +69,7 @@ STUCK = (
 # anything is evaluated that is nothing.
 PROFILED = ["eval", "--profile", "--memo", "0", "rows/cond.rec"], "s(z)\n"
 PROFILE = re.compile(
-    r"(profile: [678]:3: [01] matched, [01] applied, [01] failed\n){3}"
+    r"(profile: [678]:3: [01] matched, [01] applied, [01] failed\t[^\t\n]+\n){3}"
     r"profile: steps: [0-3] spent, [0-3] matched, 0 saved by 0 memo hits\n"
     r"profile: cells: \d+ made, \d+ in use at most\nprofile: garbage collections: 0\n"
 )

@@ -140,8 +140,10 @@ def option_of(argument):
             value = given["called"]
             default = given["default"][1] if isinstance(given["default"], tuple) else ""
             choices = tuple(given.get("names", ()))
-        elif name == "Term":
-            value, short, repeats = argument["name"].upper(), "-e", True
+        elif name == "Input":
+            value, short, repeats = "TERM", "-e", True
+        elif name == "FlagWithout":
+            pass
         elif name == "Files":
             value, repeats = given, True
         else:
@@ -152,7 +154,7 @@ def option_of(argument):
 def commands():
     """The subcommands in the order of the help, without `help`."""
     found, known = [], constants()
-    for it in (*known["ON_TERMS"], *known["ON_SPECIFICATIONS"]):
+    for it in (*known["EVALUATING"], *known["ON_TERMS"], *known["ON_SPECIFICATIONS"]):
         words, options = [], []
         for argument in it["arguments"]:
             kind = argument["kind"]

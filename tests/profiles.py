@@ -21,11 +21,14 @@ import time
 from attempts import EXAMPLES, NO_CELLS, NO_WRITE, check, passed, recw
 from common import FAILURES, program, text_of
 from oracles import Terms
-from traces import HEAD, Over, Specification, place_of, with_conditions, write
+from traces import HEAD, Over, Specification, place_of, rule_text, with_conditions, write
 
 COUNT = 300
+WIDTH = 60
 BUDGETS = (0, 1, 2, 3, 5, 8, 12, 16)
-RULE = re.compile(r"profile: (\d+):(\d+): (\d+) matched, (\d+) applied, (\d+) failed")
+RULE = re.compile(r"profile: (\d+):(\d+): (\d+) matched, (\d+) applied, (\d+) failed\t([^\t]+)")
+# The same on a terminal.
+ALIGNED = re.compile(r"profile: (\d+):(\d+): +(\d+) matched, +(\d+) applied, +(\d+) failed  (\S.*)")
 STEPS = re.compile(r"profile: steps: (\d+) spent, (\d+) matched, (\d+) saved by (\d+) memo hits")
 CELLS = re.compile(r"profile: cells: (\d+) made, (\d+) in use at most")
 RECLAIMS = re.compile(r"profile: garbage collections: (\d+)")
@@ -33,6 +36,8 @@ SHOWN = re.compile(r"\rrecw: term (\d+): ([\d,]+) of ([\d,]+) steps, ([\d,]+) ce
 WIPED = "\r\x1b[K"
 # Two rules in turn without an end behind a term that has none, and a number that is the sum of the two before it.
 TURNS = f"{HEAD}f(z) -> f(s(z))\nf(s(X)) -> f(X)\nEVAL z f(z) END-SPEC"
+# A rule of more than the bytes that are shown, with comments in it.
+LONG_RULE = f"{HEAD}f( % none\n  z) ->\n{'s(' * 30}z{')' * 30}\nEVAL f(z) END-SPEC"
 SUMS = "REC-SPEC S SORTS N CONS z : -> N s : N -> N p : N N -> N OPNS f : N -> N VARS X : N RULES f(z) -> z\n"
 SUMS += "f(s(z)) -> s(z)\nf(s(s(X))) -> p(f(s(X)),f(X))\nEVAL f("
 # How many seconds a long run is to take about, and how many lines it may show in each.
@@ -67,9 +72,16 @@ class Counting(Specification):
             return budget
 
     def lines(self):
-        """The lines of the rules."""
+        """The lines of the rules: those that matched most first."""
         places = [place_of(self.text, it.place) for it in self.rules]
-        return [(*place, *counts) for place, counts in zip(places, self.counts)]
+        texts = [cut(rule_text(self, number), WIDTH) for number in range(len(self.rules))]
+        lines = [(*place, *counts, text) for place, counts, text in zip(places, self.counts, texts)]
+        return sorted(lines, key=lambda it: (-it[2], it[:2]))
+
+
+def cut(text, width):
+    """A text of at most so many bytes."""
+    return text if len(text) <= width else f"{text[: width - 3]}..."
 
 
 def profile_of(what, told):
@@ -78,8 +90,13 @@ def profile_of(what, told):
     rules = [RULE.fullmatch(it) for it in lines[:-3]]
     rest = [kind.fullmatch(it) for kind, it in zip((STEPS, CELLS, RECLAIMS), lines[-3:])]
     check(f"{what}: lines", True, told.endswith("\n") and len(rest) == 3 and all(rules) and all(rest))
-    numbers = [tuple(map(int, it.groups())) if it else () for it in (*rules, *rest)]
-    return numbers[:-3], *numbers[-3:]
+    numbers = [tuple(map(int, it.groups())) if it else () for it in rest]
+    return [numbers_of(it) for it in rules], *numbers
+
+
+def numbers_of(found):
+    """The numbers of the line of a rule, and its text."""
+    return (*map(int, found.groups()[:5]), found[6]) if found else ()
 
 
 def check_sums(what, profile):
@@ -152,16 +169,26 @@ def try_examples(at):
     """Numbers that were worked out by hand, and those of the examples."""
     alone = ["--memo", "0"]
     profile, _ = profiled("add.rec", alone, ["add.rec", "add.trm"])
-    check("add.rec", ([(11, 3, 2, 2, 0), (12, 3, 2, 2, 0)], (4, 4, 0, 0)), profile[:2])
+    rules = [(11, 3, 2, 2, 0, "plus(z,Y) -> Y"), (12, 3, 2, 2, 0, "plus(s(X),Y) -> s(plus(X,Y))")]
+    check("add.rec", (rules, (4, 4, 0, 0)), profile[:2])
+    # without the input term the second rule is used more often, and comes first
+    profile, _ = profiled("add.rec alone", alone, ["add.rec"])
+    rules = [(12, 3, 2, 2, 0, "plus(s(X),Y) -> s(plus(X,Y))"), (11, 3, 1, 1, 0, "plus(z,Y) -> Y")]
+    check("add.rec alone", (rules, (3, 3, 0, 0)), profile[:2])
     # the first rule of f and that of g take a step each, the condition fails, and the second rule of f takes one
     profile, _ = profiled("cond.rec", alone, ["rows/cond.rec"])
-    check("cond.rec", ([(6, 3, 1, 0, 1), (7, 3, 1, 1, 0), (8, 3, 1, 1, 0)], (3, 3, 0, 0)), profile[:2])
+    numbers = [(6, 3, 1, 0, 1), (7, 3, 1, 1, 0), (8, 3, 1, 1, 0)]
+    check("cond.rec", (numbers, (3, 3, 0, 0)), ([it[:5] for it in profile[0]], profile[1]))
+    file = write(f"{at}/long", LONG_RULE)
+    profile, _ = profiled("a long rule", alone, [file])
+    check("a long rule", [(2, 1, 1, 1, 0, f"f( z) -> {'s(' * 24}...")], profile[0])
     file = write(f"{at}/none", "REC-SPEC N SORTS N CONS z : -> N EVAL z END-SPEC")
     profile, _ = profiled("no rules", alone, [file])
     check("no rules", ([], (0, 0, 0, 0), (0,)), (*profile[:2], profile[3]))
     file = write(f"{at}/turns", TURNS)
     profile, _ = profiled("reclaims", ["--steps", "1000", "--reclaim", "1", *alone], [file])
-    check("reclaims", ([(2, 1, 500, 500, 0), (3, 1, 500, 500, 0)], True), (profile[0], profile[3][0] > 0))
+    rules = [(2, 1, 500, 500, 0, "f(z) -> f(s(z))"), (3, 1, 500, 500, 0, "f(s(X)) -> f(X)")]
+    check("reclaims", (rules, True), (profile[0], profile[3][0] > 0))
     results = 0
     for file in ("add.rec", "derive.rec", "lambda.rec", "tautology.rec", "while.rec", "tutorial/sort.rec"):
         profile, values = profiled(file, ["--count"], [file])
@@ -202,6 +229,21 @@ def try_ends(at):
         check("no room for values", (NO_WRITE[0], True), (status, told.endswith(f"\n{NO_WRITE[1]}")))
         status, values, _ = recw("eval", "--profile", good, capture_output=False, stdout=-1, stderr=full)
         check("no room for a profile", (0, "s(s(s(z)))\n"), (status, values))
+
+
+def try_terminal():
+    """On a terminal the columns are aligned, and the texts of the rules are cut to its width."""
+    words = ["eval", "--profile", f"{EXAMPLES}/add.rec", "-e", "plus(s(s(s(s(s(s(s(s(z)))))))),z)"]
+    plain = profile_of("a pipe", before_pipe(*words)[2])
+    for columns in (40, 60, 79, 80, 200):
+        lines = before_terminal(*words, columns=columns)[2].splitlines()
+        rules = [ALIGNED.fullmatch(it) for it in lines[:-3]]
+        check(f"{columns} columns: lines", True, len(rules) == 2 and all(rules))
+        found = [numbers_of(it) for it in rules]
+        check(f"{columns} columns: numbers", [it[:5] for it in plain[0]], [it[:5] for it in found])
+        check(f"{columns} columns: aligned", 1, len({it.start(6) for it in rules}))
+        width = max(columns - 1 - rules[0].start(6), 20)
+        check(f"{columns} columns: texts", [cut(it[5], width) for it in plain[0]], [it[5] for it in found])
 
 
 def number_of(text):
@@ -303,6 +345,7 @@ def main():
     with tempfile.TemporaryDirectory() as at:
         for group in (try_random, try_examples, try_ends, try_progress):
             group(at)
+    try_terminal()
     print(f"{passed()} passed, {len(FAILURES)} failed")
     sys.exit(1 if FAILURES else 0)
 

@@ -45,19 +45,19 @@ def calls(tree, names, found):
     return found
 
 
-def line(spec, call):
-    """The line of a call."""
+def line(spec, number, call):
+    """The line of a call in the term with this number."""
     text = shown(call)
     text = text if len(text) <= WIDTH else f"{text[: WIDTH - 3]}..."
     places = [place_of(spec.text, it.place) for it in spec.rules if spec.matches(it.left, call, {})]
     told = ", ".join(f"{line}:{column}" for line, column in places)
-    return f"stuck: {text}: {f'the conditions of {told} fail' if places else 'no rule matches'}\n"
+    return f"stuck: term {number}: {text}: {f'the conditions of {told} fail' if places else 'no rule matches'}\n"
 
 
 def report(spec, names, values):
     """The lines that are due for the lines of values."""
-    trees = [Terms(it).term() for it in values.splitlines() if not it.startswith("!")]
-    return "".join(line(spec, call) for tree in trees for call in calls(tree, names, []))
+    trees = [(at, Terms(it).term()) for at, it in enumerate(values.splitlines(), 1) if not it.startswith("!")]
+    return "".join(line(spec, at, call) for at, tree in trees for call in calls(tree, names, []))
 
 
 def compare(chance, number, at):
@@ -85,14 +85,16 @@ def try_random(at):
 def try_given(at):
     """Given terms: those of a file and those among the words, whose annotations are not told."""
     file = write(f"{at}/spec", f"{HEAD}f(z) -> z if z -><- s(z)\n  f(X) -> z if X -><- s(s(z))\nEVAL f(s(z)) END-SPEC")
-    here, there = "stuck: f(z): the conditions of 2:1, 3:3 fail\n", "stuck: f(s(z)): the conditions of 3:3 fail\n"
-    due = (5, "f(s(z))\ns(f(z)){n(1),[2]}\nf(z){}\n".replace("{}", ""), f"{there}{here}{here}")
+    here, there = "f(z): the conditions of 2:1, 3:3 fail\n", "stuck: term 1: f(s(z)): the conditions of 3:3 fail\n"
+    both = f"{there}stuck: term 2: {here}stuck: term 3: {here}"
+    due = (5, "f(s(z))\ns(f(z)){n(1),[2]}\nf(z){}\n".replace("{}", ""), both)
     check("-e", due, recw("eval", "--stuck", "-e", "s(f(z)){n(1),[2]}", "-e", "f(z){}", file))
     terms = write(f"{at}/terms", "[s(f(z)){n(1),[2]},f(z){}]")
     check("TERMS", due, recw("eval", "--stuck", file, terms))
-    check("annotated", (5, "f(s(z))\nf(z){f(z)}\n", f"{there}{here}"), recw("eval", "--stuck", "-e", "f(z){f(z)}", file))
+    due = (5, "f(s(z))\nf(z){f(z)}\n", f"{there}stuck: term 2: {here}")
+    check("annotated", due, recw("eval", "--stuck", "-e", "f(z){f(z)}", file))
     long = f"f({'s(' * 40}z{')' * 40})"
-    told = f"stuck: {long[: WIDTH - 3]}...: the conditions of 3:3 fail\n"
+    told = f"stuck: term 2: {long[: WIDTH - 3]}...: the conditions of 3:3 fail\n"
     for notes in ("", "{n}"):
         due = (5, f"f(s(z))\n{long}{notes}\n", f"{there}{told}")
         check(f"a long one {notes}", due, recw("eval", "--stuck", "-e", f"{long}{notes}", file))
@@ -102,7 +104,8 @@ def try_given(at):
         text = f"{name}(z)" if width <= WIDTH else f"{name[: WIDTH - 3]}..."
         for word in ([], ["-e", f"{name}(z){{z}}"]):
             values = f"{name}(z)\n" + (f"{name}(z){{z}}\n" if word else "")
-            due = (5, values, f"stuck: {text}: no rule matches\n" * (2 if word else 1))
+            numbers = (1, 2) if word else (1,)
+            due = (5, values, "".join(f"stuck: term {it}: {text}: no rule matches\n" for it in numbers))
             check(f"{width} bytes {word}", due, recw("eval", "--stuck", *word, file))
 
 
@@ -111,7 +114,7 @@ def try_great(at):
     how = {"before": at_stack(256)}
     within = f"{'s(' * LEVELS}f(z){')' * LEVELS}"
     file = write(f"{at}/one", f"{HEAD}f(s(X)) -> X EVAL {within} END-SPEC")
-    due = (5, f"{within}\n", "stuck: f(z): no rule matches\n")
+    due = (5, f"{within}\n", "stuck: term 1: f(z): no rule matches\n")
     check_long(f"{LEVELS} levels", due, recw("eval", "--stuck", file, **how))
     high = f"{'f(' * LEVELS}z{')' * LEVELS}"
     file = write(f"{at}/each", f"{HEAD}f(s(X)) -> X EVAL {high} END-SPEC")
@@ -119,7 +122,7 @@ def try_great(at):
     texts = [f"{'f(' * it}z{')' * it}" for it in range(1, WIDTH)]
     texts = [it if len(it) <= WIDTH else f"{it[: WIDTH - 3]}..." for it in texts]
     texts += [f"{high[: WIDTH - 3]}..."] * (LEVELS - len(texts))
-    lines = [f"stuck: {it}: no rule matches\n" for it in texts]
+    lines = [f"stuck: term 1: {it}: no rule matches\n" for it in texts]
     check_long(f"{LEVELS} calls", (5, f"{high}\n", "".join(lines)), recw("eval", "--stuck", file, **how))
     file = write(
         f"{at}/shared",

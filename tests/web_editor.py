@@ -531,6 +531,10 @@ def busy(browser):
     return next(it["value"] for it in measured if it["name"] == "TaskDuration") * 1000
 
 
+# Options of commands of the tutorial that the page does not show.
+ELSEWHERE = {"--symbol", "--sizes", "--to-table", "--dot"}
+
+
 def tutorial(browser):
     """Each specification of the tutorial is an example of the page, in which the commands over files show what the
     tutorial shows: values, errors, traces and checks."""
@@ -545,7 +549,7 @@ def tutorial(browser):
             name = words[-1].lstrip(">")
             written[name] = written.get(name, "") + command.encode().decode("unicode_escape")
         files = [it for it in words if it.startswith("examples/") or it in written]
-        if program != "recw" or "--symbol" in words or not files:
+        if program != "recw" or ELSEWHERE.intersection(words) or not files:
             continue
         given = [words[i + 1] for i, it in enumerate(words) if it == "-e"]
         if files[0] in written:

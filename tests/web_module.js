@@ -18,8 +18,9 @@ const page = fs.readFileSync(process.argv[2], 'utf8');
 const load = require('./web_load.js');
 const COMMON = ['run', 'places', 'rows', 'lists', 'steps', 'graph', 'spec', 'aterm', 'names', 'uses', 'hint', 'explain',
   'jobs'];
-const { callsOf, toldOf, readTrace, placeOfRedex, explainError, lineAndColumn, rulesOf, profileOf } = load(COMMON,
-  ['callsOf', 'toldOf', 'readTrace', 'placeOfRedex', 'explainError', 'lineAndColumn', 'rulesOf', 'profileOf']);
+const { callsOf, toldOf, readTrace, placeOfRedex, explainError, lineAndColumn, rulesOf, profileOf, specToken } = load(
+  COMMON, ['callsOf', 'toldOf', 'readTrace', 'placeOfRedex', 'explainError', 'lineAndColumn', 'rulesOf', 'profileOf',
+    'specToken']);
 const { detailsOf } = load(['errors'], ['detailsOf']);
 const data = JSON.parse(/<script type="application\/json" id="data">([^]*?)<\/script>/.exec(page)[1]);
 global.data = data;
@@ -51,12 +52,26 @@ function explained({ error, texts }) {
   return hint ? [first, `${place(hint.from)}${hint.words}`] : [first];
 }
 
-// The lines that the program writes of a profile.
+// The most bytes that a profile shows of a rule.
+const MOST_OF_RULE = 60;
+
+// The text of the rule at an offset, on one line: it ends before the next rule, section or END-SPEC.
+function ruleText(spec, from, next) {
+  const isInside = (it) => it.from !== next && !['Eval', 'EndSpec', 'End'].includes(it.kind);
+  let to = from;
+  for (let it = specToken(spec, from); isInside(it); it = specToken(spec, to)) to = it.to;
+  const text = spec.slice(from, to).replace(/%[^\n]*/g, ' ').replace(/[ \t\n\r]+/g, ' ');
+  return text.length > MOST_OF_RULE ? `${text.slice(0, MOST_OF_RULE - 3)}...` : text;
+}
+
+// The lines that the program writes of a profile: the rules with the most matches first.
 function profiled(counts, spec) {
   const { rules, totals } = profileOf(counts, rulesOf(spec)), { steps, hits, saved, made, most, collections } = totals;
   const matches = rules.reduce((sum, it) => sum + it.matched, 0);
-  const of = (it) => `${it.line}:${it.column}: ${it.matched} matched, ${it.applied} applied, ${it.failed} failed`;
-  return [...rules.map(of),
+  const texts = new Map(rules.map((it, i) => [it, ruleText(spec, it.from, rules[i + 1]?.from)]));
+  const of = (it) => `${it.line}:${it.column}: ${it.matched} matched, ${it.applied} applied, ${it.failed} failed\t`
+    + texts.get(it);
+  return [...[...rules].sort((a, b) => b.matched - a.matched).map(of),
     `steps: ${steps} spent, ${matches} matched, ${saved} saved by ${hits} memo hits`,
     `cells: ${made} made, ${most} in use at most`, `garbage collections: ${collections}`].map((it) => `profile: ${it}\n`).join('');
 }

@@ -84,6 +84,8 @@ REASONS = {
     "T6": "argument of the wrong sort",
     "P1": "placeholder other than <term>, <int>, <str>, <appl>, <placeholder>, <list>",
     "P2": "placeholder with annotations",
+    "R1": "table that is not a list without annotations, or has no element",
+    "R2": "placeholder of a table that is not <N>, N being an earlier element, nor <[TERM]>",
     "M1": "wrong number of arguments for the pattern",
     "M2": "argument that does not match its placeholder",
 }
@@ -96,7 +98,7 @@ class Fault(Exception):
 
     code    the code
     reason  the name of the error in a text or a term, as `recw` writes it, such as "S5"; else None
-    rule    the number in that name, of S1 to S11, T2 to T6, P1 and P2; else None
+    rule    the number in that name, of S1 to S11, T2 to T6, P1, P2, R1 and R2; else None
     place   the offset in the text, in bytes from 0; None if the error has no place
     line    the line of the place, from 1
     column  its column, in bytes from 1
@@ -222,7 +224,7 @@ FAULTS: Dict[int, Type[Fault]] = {
 
 def fault(code: int, reason: Optional[str] = None, detail: Optional[str] = None) -> Fault:
     """The exception for a code."""
-    number = reason[1:] if reason is not None and reason[0] in "STP" else ""
+    number = reason[1:] if reason is not None and reason[0] in "STPR" else ""
     return FAULTS[code](code, None, int(number) if number else None, reason, None, None, detail)
 
 

@@ -5,9 +5,9 @@ it is held, but for signal handlers and finalizers. The callbacks of weak refere
 They only append to a queue, since they can run in any thread at any time, and the next call that
 holds the lock empties the queue.
 
-How terms are kept: the library frees no cell but in `reclaim`, `normalise` and `eval_term`. So a
-term that is made is only noted, as fresh. `reclaim` is given the fresh terms as those to keep, and
-before the other two each of them is protected, and is a root from then on. A term that dies while
+How terms are kept: the library frees no cell but in `reclaim`, `normalise`, `call` and `eval_term`.
+So a term that is made is only noted, as fresh. `reclaim` is given the fresh terms as those to keep,
+and before the others each of them is protected, and is a root from then on. A term that dies while
 it is fresh has cost no call.
 """
 
@@ -43,6 +43,8 @@ MOST_SIZE = 2**64 - 1
 
 OK, KIND, RANGE, SYNTAX, RULE = Code.OK.value, Code.KIND.value, Code.RANGE.value, Code.SYNTAX.value, Code.RULE.value
 UNMATCHED, INTERRUPTED = Code.UNMATCHED.value, Code.INTERRUPTED.value
+# a name that is not quoted
+PLAIN = re.compile(rb"[A-Za-z_][-A-Za-z0-9_+*$.]*")
 KINDS = tuple(Kind)
 # a text up to this length is read without releasing Python's interpreter lock
 SHORT = 4096
@@ -179,6 +181,14 @@ class Term(Held):
         """
         most = checked("most", most, 0, MOST_SIZE)
         return readable(self._store._text(self._store._calls.print_within, self, f"the text has more than {most} bytes", most))
+
+    def table(self) -> bytes:
+        """The printed text of the table of the term, in ASCII: each part that the term shares is written once.
+
+        `Store.parse_table` reads it as the same term, unless it has more than 16,777,216 bytes. Equal terms have equal
+        tables, also in different stores.
+        """
+        return self._store._text(self._store._calls.print_table, self)
 
     def __repr__(self) -> str:
         return f"<{self}>"
@@ -392,6 +402,17 @@ class Spec(Held):
         steps = checked("steps", steps, 0, MOST_STEPS)
         return self._store._normalise(self, self._store._made(value), steps)
 
+    def call(self, symbol: Union[Symbol, Text], *values: Value, steps: int = STEPS) -> Tuple[Term, int]:
+        """The value of the call of a symbol on values, and how many steps it took; LimitReached if it takes more than
+        `steps`.
+
+        The values are not evaluated, and only the call itself is checked: it takes the time of the number of values and
+        of the steps, however large the values are. A name stands for the declared symbol, or for one that may be added
+        as by `Store.symbol`. Neither a signal handler nor `Store.interrupt` ends it.
+        """
+        steps = checked("steps", steps, 0, MOST_STEPS)
+        return self._store._call(self, symbol, self._store._made_all(values), steps)
+
     @property
     def terms(self) -> List[Term]:
         """The terms below EVAL."""
@@ -475,8 +496,8 @@ class Store:
     """A store of at most `cells` different parts of terms, and of at most `names` names.
 
     Names are not freed before the store is closed. A name counts once for each number of arguments, and once more if
-    it is also used with quotes. `parse`, `appl`, `symbol`, `specify` and `Pattern.make` can add names; if they would
-    pass the limit, they raise `OutOfCells`.
+    it is also used with quotes. `parse`, `parse_table`, `appl`, `symbol`, `specify`, `Pattern.make` and `Spec.call` of
+    a name can add names; if they would pass the limit, they raise `OutOfCells`.
 
     Any number of threads may use it. Their calls wait for each other; stores have nothing in common.
     """
@@ -611,6 +632,22 @@ class Store:
             code = read(self._at, data, len(data), out)
             if code:
                 raise self._text_fault(code, data, "A")
+            return self._term(out.value)
+
+    def parse_table(self, text: Text) -> Term:
+        """The term of the table that a text spells, such as that of `Term.table`. A str is encoded in UTF-8.
+
+        RuleFault if the text spells a term that is no table: `R1` if it is not a list without annotations that has an
+        element, else `R2` if a placeholder is neither the number of an earlier element nor a list of one item. The
+        terms of all elements take cells, and so do the numbers and lists in placeholders, until they are freed.
+        """
+        data = encoded(text)
+        out = U32()
+        with self._lock:
+            self._free_dead()
+            code = self._calls.read_table(self._at, data, len(data), out)
+            if code:
+                raise self._text_fault(code, data, "A", "R")
             return self._term(out.value)
 
     def symbol(self, name: Text, arity: builtins.int, quoted: bool = False) -> Symbol:
@@ -969,6 +1006,33 @@ class Store:
             if code:
                 raise fault(code)
             return self._term(out.value), taken.value
+
+    def _call(
+        self, spec: Spec, symbol: Union[Symbol, Text], terms: List[Term], steps: builtins.int
+    ) -> Tuple[Term, builtins.int]:
+        self._check_not_nested()
+        out, taken = U32(), U64()
+        with self._lock:
+            self._free_dead()
+            spec._check()
+            number = self._symbol_number(symbol, len(terms))
+            code = self._freeing_call(self._calls.call, number, numbers_of(terms), len(terms), steps, out, taken)
+            if code == RULE:
+                raise self._rule_fault(code, "T")
+            if code == RANGE:
+                raise fault(code, detail=f"the symbol does not take {len(terms)} arguments")
+            if code:
+                raise fault(code)
+            return self._term(out.value), taken.value
+
+    def _symbol_number(self, symbol: Union[Symbol, Text], arity: builtins.int) -> builtins.int:
+        """The number of a symbol, or of the one of a name with so many arguments, quoted if it is not plain."""
+        if isinstance(symbol, Symbol):
+            if symbol._store is not self:
+                raise UnknownFault(Code.UNKNOWN, detail="the symbol is of another store")
+            return symbol._number
+        data = encoded(symbol)
+        return self.symbol(data, arity, quoted=PLAIN.fullmatch(data) is None)._number
 
     def _eval_terms(self, spec: Spec) -> List[Term]:
         self._check_not_nested()

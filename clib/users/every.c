@@ -68,6 +68,8 @@ static void closed(void)
     SAME(PSILT_CLOSED, psilt_place(&p, &out));
     SAME(PSILT_CLOSED, psilt_print(&p, 0, &len));
     SAME(PSILT_CLOSED, psilt_print_within(&p, 0, 9, &len));
+    SAME(PSILT_CLOSED, psilt_print_table(&p, 0, &len));
+    SAME(PSILT_CLOSED, psilt_read_table(&p, bytes, 0, &out));
     SAME(PSILT_CLOSED, psilt_text(&p, bytes, 1));
     SAME(PSILT_CLOSED, psilt_int(&p, 1, &out));
     SAME(PSILT_CLOSED, psilt_nil(&p, &out));
@@ -93,6 +95,7 @@ static void closed(void)
     SAME(PSILT_CLOSED, psilt_spec(&p, bytes, 0, 0, 1));
     SAME(PSILT_CLOSED, psilt_spec_free(&p));
     SAME(PSILT_CLOSED, psilt_normalise(&p, 0, 1, &out, &taken));
+    SAME(PSILT_CLOSED, psilt_call(&p, 0, terms, 0, 1, &out, &taken));
     SAME(PSILT_CLOSED, psilt_eval_terms(&p, &out));
     SAME(PSILT_CLOSED, psilt_eval_term(&p, 0, &out));
     SAME(PSILT_CLOSED, psilt_obey(&p, &q));
@@ -461,6 +464,8 @@ static void keeps_names(void)
     SAME(PSILT_OK, psilt_spec(&p, BYTES(spec), 0, 100));
     SAME(10, names(&p));
     SAME(PSILT_SYNTAX, psilt_read(&p, BYTES("unread(,)"), &term));
+    SAME(PSILT_SYNTAX, psilt_read_table(&p, BYTES("[unread(,)]"), &term));
+    SAME(PSILT_RULE, psilt_read_table(&p, BYTES("unread"), &term));
     SAME(10, names(&p));
     SAME(PSILT_OK, psilt_reclaim(&p, &a, 0));
     SAME(10, names(&p));
@@ -473,7 +478,11 @@ static void keeps_names(void)
     SAME(PSILT_FULL, psilt_appl(&p, BYTES("last"), true, &a, 0, &term));
     SAME(PSILT_FULL, psilt_read(&p, BYTES("last(1)"), &term));
     SAME(PSILT_FULL, psilt_read(&p, BYTES("[z,s(z),other]"), &term));
+    SAME(PSILT_FULL, psilt_read_table(&p, BYTES("[z,s(<0>),other(<1>)]"), &term));
+    SAME(PSILT_FULL, psilt_read_table(&p, BYTES("[other,z]"), &term));
     SAME(77, term);
+    SAME(PSILT_OK, psilt_read_table(&p, BYTES("[z,s(<0>),f(<1>)]"), &term));
+    PRINTS(term, "f(s(z))");
     SAME(PSILT_FULL, psilt_symbol(&p, BYTES("new"), false, 0, &symbol));
     SAME(4242, symbol);
     pair[0] = reads(&p, "a");
@@ -553,13 +562,21 @@ static void orders_codes(void)
     /* nothing specified, a stale reference, and an integer */
     SAME(PSILT_UNSPECIFIED, psilt_normalise(&p, stale, 0, &value, &taken));
     SAME(PSILT_UNSPECIFIED, psilt_eval_term(&p, 4294967295u, &value));
+    SAME(PSILT_UNSPECIFIED, psilt_call(&p, none, both, 2, 0, &value, &taken));
     SAME(PSILT_RANGE, psilt_spec(&p, BYTES("?"), 0, 0));
     SAME(PSILT_RANGE, psilt_spec(&p, long_one, sizeof long_one, 0, 1));
     SAME(PSILT_RANGE, psilt_read(&p, long_one, sizeof long_one, &out));
+    SAME(PSILT_RANGE, psilt_read_table(&p, long_one, sizeof long_one, &out));
     SAME(PSILT_RANGE, psilt_pattern(&p, long_one, sizeof long_one, &none));
     SAME(PSILT_OK, psilt_spec(&p, BYTES("REC-SPEC E SORTS S CONS z : -> S EVAL z END-SPEC"), 0, 1));
     SAME(PSILT_STALE, psilt_normalise(&p, stale, 0, &value, &taken));
     SAME(PSILT_RULE, psilt_normalise(&p, list, 0, &value, &taken));
+    /* no such symbol, the wrong count, a stale reference, and a symbol that is not declared */
+    SAME(PSILT_UNKNOWN, psilt_call(&p, 4242, both, 2, 0, &value, &taken));
+    SAME(PSILT_RANGE, psilt_call(&p, symbol, both, 2, 0, &value, &taken));
+    SAME(PSILT_RANGE, psilt_call(&p, symbol, both, 0, 0, &value, &taken));
+    SAME(PSILT_STALE, psilt_call(&p, symbol, both, 1, 0, &value, &taken));
+    SAME(PSILT_RULE, psilt_call(&p, symbol, &list, 1, 0, &value, &taken));
     SAME(77, out);
     SAME(77, value);
     SAME(77, taken);
@@ -575,6 +592,9 @@ static void orders_codes(void)
     SAME(PSILT_KIND, psilt_cons(&p, list, reads(&p, "1"), &out));
     SAME(PSILT_SYNTAX, psilt_read(&p, BYTES("f(new"), &out));
     SAME(PSILT_FULL, psilt_read(&p, BYTES("f(new)"), &out));
+    SAME(PSILT_SYNTAX, psilt_read_table(&p, BYTES("[f(new]"), &out));
+    SAME(PSILT_RULE, psilt_read_table(&p, BYTES("f(new)"), &out));
+    SAME(PSILT_FULL, psilt_read_table(&p, BYTES("[f(new),<1>]"), &out));
     SAME(PSILT_NAME, psilt_symbol(&p, BYTES("0"), false, 0, &none));
     SAME(PSILT_OK, psilt_pattern(&p, BYTES("f(<int>)"), &pattern));
     SAME(PSILT_KIND, psilt_make(&p, pattern, &list, 1, &out));
@@ -784,6 +804,153 @@ static void gives_up(void)
     SAME(PSILT_OK, psilt_close(&p));
 }
 
+/* Pairs of numbers beside addition. */
+static const char pairs[] = "REC-SPEC Pairs SORTS Nat Pair CONS z : -> Nat s : Nat -> Nat p : Nat Nat -> Pair "
+                            "OPNS dup : Nat -> Pair plus : Nat Nat -> Nat VARS X Y : Nat RULES dup(X) -> p(X,X) "
+                            "plus(z,Y) -> Y plus(s(X),Y) -> s(plus(X,Y)) END-SPEC";
+
+/* The rule that a call violates. */
+static void breaks_call(int line, psilt *p, const char *name, bool quoted, const char *text, uint32_t rule)
+{
+    psilt_term given = reads(p, text), value = 77;
+    uint32_t out = 77;
+    uint64_t taken = 77;
+    size_t symbol;
+    same(line, "psilt_symbol", PSILT_OK, psilt_symbol(p, BYTES(name), quoted, 1, &symbol));
+    same(line, "psilt_call", PSILT_RULE, psilt_call(p, symbol, &given, 1, 10, &value, &taken));
+    same(line, "psilt_rule", PSILT_OK, psilt_rule(p, &out));
+    same(line, "rule", rule, out);
+    same(line, "value", 77, value);
+    same(line, "taken", 77, (long long)taken);
+}
+
+/* Symbols are called on values, which are not evaluated. */
+static void calls(void)
+{
+    psilt p = PSILT_INIT;
+    psilt_term one, two, term, args[2], value = 77, none = 4294967295u;
+    size_t plus, dup, s, other, pattern, count;
+    uint32_t out = 77;
+    uint64_t taken = 77;
+    SAME(PSILT_OK, psilt_open(&p, 1000));
+    SAME(PSILT_OK, psilt_spec(&p, BYTES(pairs), 0, 1));
+    SAME(PSILT_OK, psilt_symbol(&p, BYTES("plus"), false, 2, &plus));
+    SAME(PSILT_OK, psilt_symbol(&p, BYTES("dup"), false, 1, &dup));
+    SAME(PSILT_OK, psilt_symbol(&p, BYTES("s"), false, 1, &s));
+    one = reads(&p, "s(z)");
+    SAME(PSILT_OK, psilt_protect(&p, one));
+    two = reads(&p, "s(s(z))");
+    SAME(PSILT_OK, psilt_protect(&p, two));
+    args[0] = args[1] = one;
+    SAME(PSILT_LIMIT, psilt_call(&p, plus, args, 2, 1, &value, &taken));
+    SAME(77, value);
+    SAME(77, taken);
+    SAME(PSILT_OK, psilt_call(&p, plus, args, 2, 2, &value, &taken));
+    SAME(two, value);
+    SAME(2, taken);
+    SAME(PSILT_OK, psilt_call(&p, plus, args, 2, 18446744073709551615u, &value, &taken));
+    SAME(two, value);
+    SAME(2, taken);
+    /* a constructor takes no step */
+    SAME(PSILT_OK, psilt_call(&p, s, &one, 1, 0, &value, &taken));
+    SAME(two, value);
+    SAME(0, taken);
+    /* an argument that is no value is not evaluated, and one with annotations keeps them */
+    term = reads(&p, "plus(z,z)");
+    SAME(PSILT_OK, psilt_call(&p, dup, &term, 1, 1, &value, &taken));
+    PRINTS(value, "p(plus(z,z),plus(z,z))");
+    SAME(1, taken);
+    PRINTS(term, "plus(z,z)");
+    args[1] = reads(&p, "s(f(1){a}){b}");
+    SAME(PSILT_OK, psilt_call(&p, plus, args, 2, 9, &value, &taken));
+    PRINTS(value, "s(s(f(1){a}){b})");
+    SAME(2, taken);
+    /* a symbol without arguments */
+    SAME(PSILT_OK, psilt_symbol(&p, BYTES("z"), false, 0, &other));
+    SAME(PSILT_OK, psilt_call(&p, other, args, 0, 0, &value, &taken));
+    PRINTS(value, "z");
+    SAME(0, taken);
+    value = 77;
+    taken = 77;
+    SAME(PSILT_UNKNOWN, psilt_call(&p, SIZE_MAX, args, 2, 9, &value, &taken));
+    SAME(PSILT_RANGE, psilt_call(&p, plus, args, 1, 9, &value, &taken));
+    args[1] = none;
+    SAME(PSILT_STALE, psilt_call(&p, plus, args, 2, 9, &value, &taken));
+    /* the rules of the call itself */
+    breaks_call(__LINE__, &p, "minus", false, "z", 4);
+    breaks_call(__LINE__, &p, "plus", false, "z", 5);
+    breaks_call(__LINE__, &p, "dup", true, "z", 4);
+    breaks_call(__LINE__, &p, "dup", false, "p(z,z)", 6);
+    breaks_call(__LINE__, &p, "dup", false, "q", 6);
+    breaks_call(__LINE__, &p, "dup", false, "\"z\"", 6);
+    breaks_call(__LINE__, &p, "dup", false, "7", 6);
+    breaks_call(__LINE__, &p, "dup", false, "[z]", 6);
+    breaks_call(__LINE__, &p, "dup", false, "<z>", 6);
+    /* after another code the place and the rule stay */
+    SAME(PSILT_SYNTAX, psilt_read(&p, BYTES("f(,"), &out));
+    SAME(PSILT_LIMIT, psilt_call(&p, dup, &one, 1, 0, &value, &taken));
+    SAME(PSILT_OK, psilt_rule(&p, &out));
+    SAME(0, out);
+    SAME(PSILT_OK, psilt_place(&p, &out));
+    SAME(2, out);
+    /* bindings are forgotten by what may free terms */
+    SAME(PSILT_OK, psilt_pattern(&p, BYTES("<term>"), &pattern));
+    SAME(PSILT_OK, psilt_match(&p, pattern, one, &count));
+    SAME(PSILT_UNKNOWN, psilt_call(&p, SIZE_MAX, args, 2, 9, &value, &taken));
+    SAME(PSILT_RANGE, psilt_call(&p, plus, args, 1, 9, &value, &taken));
+    SAME(PSILT_STALE, psilt_call(&p, plus, args, 2, 9, &value, &taken));
+    SAME(77, value);
+    SAME(77, taken);
+    SAME(PSILT_OK, psilt_bound(&p, 0, &out));
+    SAME(one, out);
+    SAME(PSILT_OK, psilt_call(&p, s, &one, 1, 0, &value, &taken));
+    SAME(PSILT_RANGE, psilt_bound(&p, 0, &out));
+    SAME(PSILT_OK, psilt_spec_free(&p));
+    SAME(PSILT_UNSPECIFIED, psilt_call(&p, s, &one, 1, 0, &value, &taken));
+    SAME(PSILT_OK, psilt_close(&p));
+}
+
+/* The call of a symbol on s(z), twice if it takes two, in a store of cap cells that has s(z) and 7. */
+static void calls_in(int line, uint32_t cap, const char *name, uint32_t arity, uint32_t code, uint32_t cells)
+{
+    psilt p = PSILT_INIT;
+    psilt_term args[2], seven, value = 77;
+    uint32_t out = 77, kind = 77;
+    int32_t number = 77;
+    uint64_t taken = 77;
+    size_t symbol;
+    bool kept;
+    same(line, "psilt_open", PSILT_OK, psilt_open(&p, cap));
+    same(line, "psilt_spec", PSILT_OK, psilt_spec(&p, BYTES(pairs), 0, 1000));
+    args[0] = args[1] = reads(&p, "s(z)");
+    same(line, "psilt_int", PSILT_OK, psilt_int(&p, 7, &seven));
+    same(line, "psilt_symbol", PSILT_OK, psilt_symbol(&p, BYTES(name), false, arity, &symbol));
+    same(line, "psilt_call", code, psilt_call(&p, symbol, args, arity, 9, &value, &taken));
+    same(line, "psilt_cells", PSILT_OK, psilt_cells(&p, &out));
+    same(line, "cells", cells, out);
+    if (code == PSILT_OK)
+        prints(line, &p, value, "s(s(z))");
+    else
+        same(line, "value", 77, value);
+    prints(line, &p, args[0], "s(z)");
+    /* the number of a term that is freed may be that of another one */
+    kept = psilt_kind(&p, seven, &kind, &number) == PSILT_OK && kind == PSILT_KIND_INT;
+    same(line, "7 is there", cells == 9, kept);
+    same(line, "psilt_close", PSILT_OK, psilt_close(&p));
+}
+
+/* s(z) takes four cells; the application of s to it takes two more, and is its own value; that of plus to it twice
+ * takes three more, and its value one more. 7 is freed before a call is refused. */
+static void calls_in_few_cells(void)
+{
+    calls_in(__LINE__, 5, "s", 1, PSILT_FULL, 5);
+    calls_in(__LINE__, 6, "s", 1, PSILT_OK, 6);
+    calls_in(__LINE__, 6, "plus", 2, PSILT_FULL, 6);
+    calls_in(__LINE__, 7, "plus", 2, PSILT_FULL, 7);
+    calls_in(__LINE__, 8, "plus", 2, PSILT_OK, 8);
+    calls_in(__LINE__, 9, "plus", 2, PSILT_OK, 9);
+}
+
 /* Symbols by their numbers. */
 static void applies(void)
 {
@@ -960,6 +1127,169 @@ static void prints_within(void)
     SAME(PSILT_OK, psilt_close(&p));
 }
 
+/* The term of a table, and the table that is printed of it. */
+static void opens(int line, psilt *p, const char *text, const char *term, const char *table)
+{
+    psilt_term out = 77, again = 77;
+    size_t len = 0;
+    same(line, "psilt_read_table", PSILT_OK, psilt_read_table(p, BYTES(text), &out));
+    prints(line, p, out, term);
+    same(line, "psilt_read", PSILT_OK, psilt_read(p, BYTES(term), &again));
+    same(line, "the same term", again, out);
+    same(line, "psilt_print_table", PSILT_OK, psilt_print_table(p, out, &len));
+    is_text(line, p, table, len);
+    same(line, "psilt_read_table", PSILT_OK, psilt_read_table(p, BYTES(table), &again));
+    same(line, "the same term of the table", out, again);
+}
+
+/* A text that spells no table by a rule, after which the place stays. */
+static void opens_not(int line, psilt *p, const char *text, uint32_t rule)
+{
+    psilt_term term = 77;
+    uint32_t before = 77, out = 77;
+    same(line, "psilt_place", PSILT_OK, psilt_place(p, &before));
+    same(line, "psilt_read_table", PSILT_RULE, psilt_read_table(p, BYTES(text), &term));
+    same(line, "term", 77, term);
+    same(line, "psilt_rule", PSILT_OK, psilt_rule(p, &out));
+    same(line, "rule", rule, out);
+    same(line, "psilt_place", PSILT_OK, psilt_place(p, &out));
+    same(line, "place", before, out);
+}
+
+static void has_tables(void)
+{
+    psilt p = PSILT_INIT;
+    psilt_term out = 77;
+    uint32_t number = 77;
+    size_t len = 4242;
+    SAME(PSILT_OK, psilt_open(&p, 1000));
+    opens(__LINE__, &p, "[a]", "a", "[a]");
+    opens(__LINE__, &p, "[7]", "7", "[7]");
+    opens(__LINE__, &p, "[[]]", "[]", "[[]]");
+    opens(__LINE__, &p, " [ pair(a,b) , f(<0>,<0>,<[7]>) ] ", "f(pair(a,b),pair(a,b),<7>)",
+          "[pair(a,b),f(<0>,<0>,<[7]>)]");
+    /* a text of 8 bytes is not shared, nor is one that is used once; an element may be used by none */
+    opens(__LINE__, &p, "[pai(a,b),f(<0>,<0>)]", "f(pai(a,b),pai(a,b))", "[f(pai(a,b),pai(a,b))]");
+    opens(__LINE__, &p, "[pair(a,b),f(<0>)]", "f(pair(a,b))", "[f(pair(a,b))]");
+    opens(__LINE__, &p, "[pair(a,b),c]", "c", "[c]");
+    opens(__LINE__, &p, "[a,<0>]", "a", "[a]");
+    /* what contains a shared term comes after it; an annotation counts as a use */
+    opens(__LINE__, &p, "[pair(a,b),g(<0>),h(<1>,<1>,<0>)]", "h(g(pair(a,b)),g(pair(a,b)),pair(a,b))",
+          "[pair(a,b),g(<0>),h(<1>,<1>,<0>)]");
+    opens(__LINE__, &p, "[f(1){pair(a,b)},pair(a,b),[<0>{},<1>]]", "[f(1){pair(a,b)},pair(a,b)]",
+          "[pair(a,b),[f(1){<0>},<0>]]");
+    opens(__LINE__, &p, "[pair(a,b){c},[<0>,<0>]{<0>}]", "[pair(a,b){c},pair(a,b){c}]{pair(a,b){c}}",
+          "[pair(a,b){c},[<0>,<0>]{<0>}]");
+    /* placeholders of the term, also of a number */
+    opens(__LINE__, &p, "[<[0]>]", "<0>", "[<[0]>]");
+    opens(__LINE__, &p, "[<[<[0]>]>{<[n]>}]", "<<0>>{<n>}", "[<[<[0]>]>{<[n]>}]");
+    opens(__LINE__, &p, "[placeholder,[<[<0>]>,<[<0>]>]]", "[<placeholder>,<placeholder>]",
+          "[<[placeholder]>,[<0>,<0>]]");
+    opens(__LINE__, &p, "[<[[1]]>]", "<[1]>", "[<[[1]]>]");
+    /* what spells no table */
+    SAME(PSILT_SYNTAX, psilt_read_table(&p, BYTES("[a,,b]"), &out));
+    SAME(PSILT_OK, psilt_rule(&p, &number));
+    SAME(0, number);
+    SAME(PSILT_OK, psilt_place(&p, &number));
+    SAME(3, number);
+    opens_not(__LINE__, &p, "a", 1);
+    opens_not(__LINE__, &p, "7", 1);
+    opens_not(__LINE__, &p, "[]", 1);
+    opens_not(__LINE__, &p, "[a]{b}", 1);
+    opens_not(__LINE__, &p, "f([a])", 1);
+    opens_not(__LINE__, &p, "<[a]>", 1);
+    opens_not(__LINE__, &p, "[<0>]{b}", 1);
+    opens_not(__LINE__, &p, "[<0>]", 2);
+    opens_not(__LINE__, &p, "[<0>,a]", 2);
+    opens_not(__LINE__, &p, "[a,<1>]", 2);
+    opens_not(__LINE__, &p, "[a,<-1>]", 2);
+    opens_not(__LINE__, &p, "[a,f(<2147483647>),b]", 2);
+    opens_not(__LINE__, &p, "[a,f(<-2147483648>)]", 2);
+    opens_not(__LINE__, &p, "[a,<foo>]", 2);
+    opens_not(__LINE__, &p, "[a,<0>{b}]", 2);
+    opens_not(__LINE__, &p, "[a,<0{b}>]", 2);
+    opens_not(__LINE__, &p, "[a,<[b,c]>]", 2);
+    opens_not(__LINE__, &p, "[a,<[b]{c}>]", 2);
+    opens_not(__LINE__, &p, "[a,<[]>]", 2);
+    opens_not(__LINE__, &p, "[a,<<0>>]", 2);
+    opens_not(__LINE__, &p, "[a,<[<1>]>]", 2);
+    opens_not(__LINE__, &p, "[a,f(1){<1>}]", 2);
+    SAME(PSILT_STALE, psilt_print_table(&p, 4294967295u, &len));
+    SAME(4242, len);
+    SAME(PSILT_OK, psilt_close(&p));
+}
+
+/* Reads a table in a store of cap cells, which is full then. */
+static void takes_table(int line, const char *text, uint32_t cap)
+{
+    psilt p = PSILT_INIT;
+    psilt_term term = 77;
+    uint32_t cells = 77;
+    same(line, "psilt_open", PSILT_OK, psilt_open(&p, cap));
+    same(line, "psilt_read_table", PSILT_OK, psilt_read_table(&p, BYTES(text), &term));
+    same(line, "psilt_cells", PSILT_OK, psilt_cells(&p, &cells));
+    same(line, "cells", cap, cells);
+    same(line, "psilt_close", PSILT_OK, psilt_close(&p));
+    if (cap == 1)
+        return;
+    term = 77;
+    same(line, "psilt_open", PSILT_OK, psilt_open(&p, cap - 1));
+    same(line, "psilt_read_table", PSILT_FULL, psilt_read_table(&p, BYTES(text), &term));
+    same(line, "term", 77, term);
+    same(line, "psilt_close", PSILT_OK, psilt_close(&p));
+}
+
+/* A term of 2^60 leaves, whose table goes to another handle; and what tables take of a store. */
+static void shares(void)
+{
+    static char table[2000];
+    psilt p = PSILT_INIT, q = PSILT_INIT;
+    psilt_term term, pair[2], again = 77, copy = 77;
+    uint32_t cells = 77;
+    size_t len = 0, node;
+    char *end = table;
+    int i;
+    SAME(PSILT_OK, psilt_open(&p, 241));
+    SAME(PSILT_OK, psilt_open(&q, 241));
+    term = reads(&p, "leaf");
+    SAME(PSILT_OK, psilt_symbol(&p, BYTES("node"), false, 2, &node));
+    for (i = 0; i < 60; i++) {
+        pair[0] = pair[1] = term;
+        SAME(PSILT_OK, psilt_apply(&p, node, pair, 2, &term));
+    }
+    end += sprintf(end, "[node(leaf,leaf)");
+    for (i = 0; i < 59; i++)
+        end += sprintf(end, ",node(<%d>,<%d>)", i, i);
+    end += sprintf(end, "]");
+    SAME(PSILT_OK, psilt_print_table(&p, term, &len));
+    SAME(strlen(table), len);
+    SAME(PSILT_OK, psilt_text(&p, (uint8_t *)end + 1, len));
+    SAME(0, memcmp(table, end + 1, len));
+    /* each node takes three cells, `leaf` two with the empty list, and each number of an element one */
+    SAME(PSILT_OK, psilt_read_table(&p, BYTES(table), &again));
+    SAME(term, again);
+    SAME(PSILT_OK, psilt_read_table(&q, BYTES(table), &copy));
+    SAME(PSILT_OK, psilt_cells(&q, &cells));
+    SAME(241, cells);
+    SAME(PSILT_OK, psilt_reclaim(&q, &copy, 1));
+    SAME(PSILT_OK, psilt_cells(&q, &cells));
+    SAME(182, cells);
+    SAME(PSILT_OK, psilt_print_table(&q, copy, &len));
+    SAME(strlen(table), len);
+    SAME(PSILT_OK, psilt_close(&p));
+    SAME(PSILT_OK, psilt_close(&q));
+    takes_table(__LINE__, "[1]", 1);
+    takes_table(__LINE__, "[[1,2]]", 5);
+    /* pair(a,b), its arguments, a, b, []; 0; f of it twice, and its arguments */
+    takes_table(__LINE__, "[pair(a,b),f(<0>,<0>)]", 10);
+    takes_table(__LINE__, "[1,2,3,<1>]", 3);
+    /* 7, 0, [], [7], <7> */
+    takes_table(__LINE__, "[7,<[<0>]>]", 5);
+    /* a term with annotations is first made without them */
+    takes_table(__LINE__, "[a{b}]", 5);
+    takes_table(__LINE__, "[b,a{<0>}]", 6);
+}
+
 /* A request stands until it is withdrawn, and ends the evaluations of the handles that obey. */
 static void stops(void)
 {
@@ -1044,10 +1374,14 @@ int main(void)
     evaluates();
     judges();
     gives_up();
+    calls();
+    calls_in_few_cells();
     applies();
     matches();
     refuses_patterns();
     prints_within();
+    has_tables();
+    shares();
     stops();
     for (code = PSILT_OK; code <= PSILT_INTERRUPTED; code++)
         SAME(0, strcmp(psilt_errstr(code), "no code of this library") == 0);

@@ -8,6 +8,7 @@ import ctypes
 import os
 import random
 import sys
+from collections import Counter
 from typing import Any, Callable, Dict, Iterator, List, Optional, Sequence, Set, Tuple
 
 sys.path.insert(0, os.path.dirname(os.path.dirname(os.path.realpath(__file__))))
@@ -20,7 +21,10 @@ from percalesilt import (
 Number = int
 # a kind, its own value, the references of what it is made of, and that of its annotations
 Node = Tuple[int, Any, Tuple[int, ...], Optional[int]]
+# a name and its arguments, each a tree or a reference
 Tree = Tuple[bytes, List[Any]]
+# what is spelt in a table: a kind, which of a list is CONS, its own value, what is inside of it, and its annotations
+Part = Tuple[int, Any, Tuple[Any, ...], Tuple[Any, ...]]
 # with its quotes and its number of arguments
 Name = Tuple[bytes, bool, int]
 
@@ -53,6 +57,62 @@ def spelt(byte: int) -> bytes:
 
 class Wrong(Exception):
     pass
+
+
+def body_text(kind: int, value: Any, inside: Sequence[bytes], hole: bytes) -> bytes:
+    """The text of a term without its annotations, with these texts inside of it."""
+    if kind == INT:
+        return b"%d" % value
+    if kind == HOLE:
+        return hole % inside[0]
+    items = b",".join(inside)
+    if kind != APPL:
+        return b"[" + items + b"]"
+    name, quoted = value
+    text: bytes = b'"' + b"".join(map(spelt, name)) + b'"' if quoted else name
+    return text + b"(" + items + b")" if items or not text else text
+
+
+def part_text(part: Part) -> bytes:
+    kind, value, inside, notes = part
+    text = body_text(kind, value, list(map(part_text, inside)), b"<%s>")
+    return text + b"{" + b",".join(map(part_text, notes)) + b"}" if notes else text
+
+
+def part_names(part: Part) -> Set[Name]:
+    kind, value, inside, notes = part
+    found: Set[Name] = {(value[0], value[1], len(inside))} if kind == APPL else set()
+    return found.union(*map(part_names, (*inside, *notes)))
+
+
+def number_in(part: Part) -> Optional[int]:
+    """The number of an element that a part stands for, or None."""
+    kind, _, inside, notes = part
+    if kind != HOLE or notes or inside[0][0] != INT or inside[0][3]:
+        return None
+    number: int = inside[0][1]
+    return number
+
+
+def is_open(part: Part, count: int) -> bool:
+    """Whether each placeholder is the number of one of `count` elements or a list of one item."""
+    kind, _, inside, notes = part
+    number = number_in(part)
+    if number is not None:
+        return 0 <= number < count
+    if kind == HOLE:
+        kind, _, inside, more = inside[0]
+        if kind != CONS or len(inside) != 1 or more:
+            return False
+    return all(is_open(it, count) for it in (*inside, *notes))
+
+
+def table_rule(part: Part) -> Optional[int]:
+    """The first rule of tables that what is spelt breaks, or None."""
+    kind, _, elements, notes = part
+    if kind != CONS or not elements or notes:
+        return 1
+    return None if all(is_open(it, place) for place, it in enumerate(elements)) else 2
 
 
 def number_of(tree: Tree) -> Tuple[int, int]:
@@ -124,25 +184,47 @@ class Model:
             yield self.at[number][2][0]
             number = self.at[number][2][1]
 
+    def inside(self, number: int) -> List[int]:
+        """The items of a list, the arguments of an application, or what is in a placeholder."""
+        kind, _, made_of, _ = self.at[number]
+        return list(made_of) if kind == HOLE else list(self.items(made_of[0] if kind == APPL else number))
+
+    def notes(self, number: int) -> List[int]:
+        annotations = self.at[number][3]
+        return [] if annotations is None else list(self.items(annotations))
+
+    def text_with(self, number: int, inner: Callable[[int], bytes], hole: bytes = b"<%s>") -> bytes:
+        """The text of a term, with these texts of what is inside of it and of its annotations."""
+        kind, value, _, _ = self.at[number]
+        text = body_text(kind, value, list(map(inner, self.inside(number))), hole)
+        notes = self.notes(number)
+        return text + b"{" + b",".join(map(inner, notes)) + b"}" if notes else text
+
     def text(self, number: int) -> bytes:
-        kind, value, made_of, annotations = self.at[number]
-        if kind == INT:
-            text = b"%d" % value
-        elif kind == HOLE:
-            text = b"<" + self.text(made_of[0]) + b">"
-        elif kind == APPL:
-            name, quoted = value
-            text = name
-            if quoted:
-                text = b'"' + b"".join(map(spelt, name)) + b'"'
-            inside = b",".join(map(self.text, self.items(made_of[0])))
-            if inside or not name and not quoted:
-                text += b"(" + inside + b")"
-        else:
-            text = b"[" + b",".join(map(self.text, self.items(number))) + b"]"
-        if annotations is not None:
-            text += b"{" + b",".join(map(self.text, self.items(annotations))) + b"}"
-        return text
+        return self.text_with(number, self.text)
+
+    def fronts(self, number: int, found: Dict[int, bytes]) -> Dict[int, bytes]:
+        """The different subterms of a term, each after those inside of it, with up to 9 bytes of their texts."""
+        if number not in found:
+            for it in (*self.inside(number), *self.notes(number)):
+                self.fronts(it, found)
+            found[number] = self.text_with(number, found.__getitem__)[:9]
+        return found
+
+    def table(self, number: int) -> bytes:
+        """The text of the table of a term."""
+        fronts = self.fronts(number, {})
+        uses = Counter(part for it in fronts for part in (*self.inside(it), *self.notes(it)))
+        shared = [it for it, front in fronts.items() if uses[it] > 1 and len(front) > 8]
+        places = {it: b"<%d>" % place for place, it in enumerate(shared)}
+
+        def element(it: int) -> bytes:
+            return self.text_with(it, written, b"<[%s]>")
+
+        def written(it: int) -> bytes:
+            return places.get(it) or element(it)
+
+        return b"[" + b",".join([*map(element, shared), written(number)]) + b"]"
 
     def fits(self, kind: str, number: int) -> bool:
         """Whether a placeholder of a kind matches a term."""
@@ -202,6 +284,38 @@ class Model:
             return 4
         counts = [len(list(self.items(self.at[it][2][0]))) for it in nodes]
         return 5 if any(ARITIES[name] != count for (name, _), count in zip(names, counts)) else None
+
+    def call_rule(self, name: bytes, quoted: bool, args: Sequence[int]) -> Optional[int]:
+        """The first rule of terms that a call breaks, or None."""
+        if quoted or name not in ARITIES:
+            return 4
+        if ARITIES[name] != len(args):
+            return 5
+        roots = [self.at[it][:2] for it in args]
+        return None if all(kind == APPL and not own[1] and own[0] in ARITIES for kind, own in roots) else 6
+
+    def applies(self, number: int, name: bytes) -> Optional[List[int]]:
+        """The arguments of a term without annotations that applies a declared name to as many as it takes."""
+        kind, value, _, annotations = self.at[number]
+        args = self.inside(number)
+        return args if (kind, value, annotations, len(args)) == (APPL, (name, False), None, ARITIES[name]) else None
+
+    def added(self, number: int, other: int) -> Tuple[Any, int]:
+        """What the call of `plus` on values comes to, and in how many steps."""
+        below = self.applies(number, b"s")
+        if below is not None:
+            tree, steps = self.added(below[0], other)
+            return (b"s", [tree]), steps + 1
+        return (other, 1) if self.applies(number, b"z") is not None else ((b"plus", [number, other]), 0)
+
+    def called(self, name: bytes, args: List[int]) -> Tuple[Any, int]:
+        """What a call on values comes to, and in how many steps."""
+        if name == b"plus":
+            return self.added(*args)
+        if name == b"twice":
+            tree, steps = self.added(args[0], args[0])
+            return tree, steps + 1
+        return (name, args), 0
 
     def tree(self, number: int) -> Tree:
         """The tree of a term that keeps the rules, but for annotations."""
@@ -446,6 +560,107 @@ class Run:
         for it in annotated:
             self.without(it, self.nil())
 
+    def print_table(self) -> None:
+        """The table of a term, which is read again."""
+        number, size = self.pick(), ctypes.byref(self.length)
+        code = self.call("print_table", number, size)
+        self.same("print_table", OK if number in self.model.at else STALE, code)
+        if code == STALE:
+            return
+        text = self.text()
+        if self.call("print_within", number, 2000, size) == OK:
+            self.same("table", self.model.table(number), text)
+        # there is to be room for what is made without annotations, and for what is in placeholders of the table
+        if len(self.model.at) + 3 * text.count(b"<") + text.count(b"{") + 1 < CELLS:
+            self.reads("read_table", (OK, number), (text, len(text)))
+            self.settle(list(self.model.at))
+
+    def some_part(self, depth: Number, count: Number) -> Part:
+        """What is spelt in an element that comes after `count` others."""
+        kind = self.dice.choice((INT, APPL, APPL, CONS, HOLE, HOLE, HOLE)) if depth else self.dice.choice((INT, HOLE))
+        inside = tuple(self.some_part(depth - 1, count) for _ in range(self.dice.randrange(4))) if depth else ()
+        notes = (self.some_part(0, count),) if self.dice.random() < 0.1 else ()
+        if kind in (APPL, CONS):
+            return kind, self.dice.choice(NAMES) if kind == APPL else None, inside, notes
+        number: Part = (INT, self.dice.randrange(-5, 30), (), notes)
+        if kind == INT:
+            return number
+        if count and (not depth or self.dice.random() < 0.7):
+            return HOLE, None, ((INT, self.dice.randrange(count), (), ()),), ()
+        return HOLE, None, ((CONS, None, inside[:1] or (number,), ()),), notes
+
+    def spoilt(self, part: Part) -> Part:
+        """A placeholder that may be neither the number of an earlier element nor a list of one item."""
+        kind, value, inside, notes = part
+        note: Part = (INT, 1, (), ())
+        wrong: Sequence[Part] = (
+            part, (HOLE, None, (part,), ()), (HOLE, None, ((CONS, None, (), ()),), ()),
+            (HOLE, None, ((CONS, None, (part, part), ()),), ()), (HOLE, None, ((CONS, None, (part,), (note,)),), ()),
+            (HOLE, None, ((INT, 0, (), (note,)),), ()), (HOLE, None, ((INT, 0, (), ()),), (note,)),
+            *((HOLE, None, ((INT, it, (), ()),), ()) for it in (-1, 0, 3, 5, 2**31 - 1)),
+        )
+        return self.dice.choice(wrong)
+
+    def read_table(self) -> None:
+        """The term of some table, or what is wrong with it."""
+        if len(self.model.at) + 500 > CELLS:
+            return
+        elements = [self.some_part(2, it) for it in range(self.dice.choice((0, 1, 2, 3, 5)))]
+        if elements and self.dice.random() < 0.2:
+            place = self.dice.randrange(len(elements))
+            elements[place] = self.spoilt(elements[place])
+        notes = (elements[0],) if elements and self.dice.random() < 0.05 else ()
+        table: Part = (CONS, None, tuple(elements), notes)
+        if elements and self.dice.random() < 0.03:
+            table = elements[0]
+        text, rule = part_text(table), table_rule(table)
+        self.reads("read_table", (SYNTAX, 0), (text + b",", len(text) + 1))
+        self.reads("place", (OK, len(text)), ())
+        self.reads("rule", (OK, 0), ())
+        code = self.call("read_table", text, len(text), ctypes.byref(self.out))
+        number = self.out.value
+        self.same("read_table", RULE if rule else OK, code)
+        if rule:
+            self.same("read_table writes", 4242, number)
+            self.reads("rule", (OK, rule), ())
+            self.reads("place", (OK, len(text)), ())
+        if rule == 1:
+            return
+        # after the second rule some of the names and of the parts may be there
+        for name in part_names(table) if rule else ():
+            self.learn_symbol(name)
+        if rule:
+            self.settle(list(self.model.at))
+            return
+        self.names |= part_names(table)
+        cells = U32()
+        self.same("cells", OK, self.library.psilt_cells(self.by_handle, ctypes.byref(cells)))
+        made: List[Number] = []
+        for it in table[2]:
+            made.append(self.made_part(it, made))
+        self.same("the term of a table", made[-1], number)
+        self.same("the cells of a table", len(self.model.at), cells.value)
+
+    def made_part(self, part: Part, earlier: Sequence[Number]) -> Number:
+        """The reference of what is spelt in an element, whose nodes come into the model."""
+        kind, value, inside, notes = part
+        # what is in a placeholder is made too: a number, or a list of one item
+        given = [self.made_part(it, earlier) for it in inside]
+        number = number_in(part)
+        if number is not None:
+            return earlier[number]
+        if kind == INT:
+            made = self.gives("int", lambda: (INT, value, (), None), (value,))
+        elif kind == HOLE:
+            inner = self.model.at[given[0]][2][0]
+            made = self.gives("hole", lambda: (HOLE, None, (inner,), None), (inner,))
+        else:
+            made = self.applied(value[0], value[1], given) if kind == APPL else self.learnt(given)
+        if not notes:
+            return made
+        noted = self.learnt([self.made_part(it, earlier) for it in notes])
+        return self.gives("annotate", lambda: (*self.model.at[made][:3], noted), (made, noted), (made, noted))
+
     def annotated(self, number: Number) -> List[Number]:
         """The parts of a term that have annotations."""
         reached: Set[Number] = set()
@@ -551,7 +766,7 @@ class Run:
         numbers = (U32 * max(1, len(args)))(*args)
         self.reads("make", (OK, term), (number, numbers, len(args)))
         self.reads("make", (RANGE, 0), (number, (U32 * (len(args) + 1))(*args, term), len(args) + 1))
-        wrong = (U32 * (len(args) + 1))(*args[1:], 2**32 - 1, 2**32 - 1)
+        wrong = (U32 * (len(args) + 2))(*args[1:], 2**32 - 1, 2**32 - 1)
         self.reads("make", (RANGE, 0), (number, wrong, len(args) + 1))
         self.reads("make", (UNKNOWN, 0), (2**64 - 1, wrong, len(args)))
         if args:
@@ -600,15 +815,20 @@ class Run:
             self.numbers.append(made)
         self.same("apply", model.of[node], made)
 
-    def made(self, tree: Tree) -> Number:
+    def made(self, tree: Any) -> Number:
         """The reference of a tree, whose nodes come into the model; there is room for them."""
+        if isinstance(tree, int):
+            return tree
         name, args = tree
-        given = [self.made(it) for it in args]
+        return self.applied(name, False, [self.made(it) for it in args])
+
+    def applied(self, name: bytes, quoted: bool, given: Sequence[Number]) -> Number:
+        """The application of a name, which comes into the model; there is room for it."""
         numbers = (U32 * max(1, len(given)))(*given)
-        code = self.call("appl", name, len(name), False, numbers, len(given), ctypes.byref(self.out))
+        code = self.call("appl", name, len(name), quoted, numbers, len(given), ctypes.byref(self.out))
         self.same("appl", OK, code)
-        self.names.add((name, False, len(given)))
-        number, node = self.out.value, (APPL, (name, False), (self.learnt(given),), None)
+        self.names.add((name, quoted, len(given)))
+        number, node = self.out.value, (APPL, (name, quoted), (self.learnt(given),), None)
         if node not in self.model.of:
             self.model.add(number, node)
             self.numbers.append(number)
@@ -667,8 +887,51 @@ class Run:
         if code == OK:
             self.same("taken", needed, self.taken.value)
             self.settle([number], value)
-            self.is_numeral(value, wanted, model.at[number][3])
+            self.is_value(value, numeral(wanted), model.at[number][3])
         self.settle([number])
+
+    def call_symbol(self) -> None:
+        """The call of a symbol on terms, which are not evaluated."""
+        model = self.model
+        if self.dice.random() < 0.8:
+            name = self.dice.choice(sorted(ARITIES))
+            self.learn_symbol((name, False, ARITIES[name] + (self.dice.random() < 0.1)))
+            number = self.length.value
+        else:
+            number = self.pick_number(self.symbols)
+        symbol, quoted, arity = self.symbols.get(number, (None, False, 2))
+        count = arity if arity < 4 and self.dice.random() < 0.9 else 2
+        args = [self.pick() for _ in range(count)]
+        if self.dice.random() < 0.8 and len(model.at) + 200 < CELLS:
+            args = [self.made(self.dice.choice((self.some_tree(3), numeral(self.dice.randrange(9))))) for _ in args]
+        steps = self.dice.choice((0, 1, 5, 1000, 2**64 - 1))
+        is_full = len(model.at) + 500 > CELLS
+        self.taken.value = 4242
+        numbers, taken = (U32 * max(1, count))(*args), ctypes.byref(self.taken)
+        code = self.call("call", number, numbers, count, steps, ctypes.byref(self.out), taken)
+        value = self.out.value
+        if code != OK:
+            self.same("call writes", (4242, 4242), (value, self.taken.value))
+        if not self.is_specified or symbol is None or count != arity or any(it not in model.at for it in args):
+            unknown = UNKNOWN if symbol is None else RANGE if count != arity else STALE
+            self.same("call", unknown if self.is_specified else UNSPECIFIED, code)
+            return
+        self.bound = []
+        if is_full and code == FULL:
+            self.settle(args)
+            return
+        rule = model.call_rule(symbol, quoted, args)
+        if rule:
+            self.same("call", RULE, code)
+            self.reads("rule", (OK, rule), ())
+            return
+        tree, needed = model.called(symbol, args)
+        self.same("call", OK if needed <= steps else LIMIT, code)
+        if code == OK:
+            self.same("taken", needed, self.taken.value)
+            self.settle(args, value)
+            self.is_value(value, tree, None)
+        self.settle(args)
 
     def settle(self, kept: Sequence[Number], value: Optional[Number] = None) -> None:
         """What an evaluation may have given up or made is given up, but for its value."""
@@ -678,12 +941,12 @@ class Run:
         self.model.reclaim(kept)
         self.numbers = list(self.model.at)
 
-    def is_numeral(self, value: Number, wanted: Number, annotations: Optional[Number]) -> None:
-        """The value's nodes, which are there, come into the model."""
+    def is_value(self, value: Number, tree: Any, annotations: Optional[Number]) -> None:
+        """The value is that of a tree, and its nodes, which are there, come into the model."""
         before = len(self.model.at)
         cells = U32()
         self.same("cells", OK, self.library.psilt_cells(self.by_handle, ctypes.byref(cells)))
-        made = self.made(numeral(wanted))
+        made = self.made(tree)
         if annotations is not None:
             node = lambda: (*self.model.at[made][:3], annotations)
             made = self.gives("annotate", node, (made, annotations), (made, annotations))
@@ -721,6 +984,7 @@ class Run:
         no_terms = (U32 * 1)()
         self.reads("appl", (FULL, 0), (name, len(name), self.dice.random() < 0.5, no_terms, 0))
         self.reads("read", (FULL, 0), (b"[1," + name + b"]", len(name) + 4))
+        self.reads("read_table", (FULL, 0), (b"[1," + name + b"]", len(name) + 4))
         code = self.call("symbol", name, len(name), False, 0, ctypes.byref(self.length))
         self.same("symbol", FULL, code)
         self.learn_symbol(self.dice.choice(sorted(self.names)))
@@ -736,7 +1000,9 @@ class Run:
         usual: List[Callable[[], object]] = [*[self.int] * 4, self.nil, *[self.cons] * 8, *[self.hole] * 2]
         usual += [*[self.annotate] * 4, *[self.appl] * 8, *[self.look] * 4, self.print, self.print_within, *[self.protect] * 2, self.count]
         usual += [*[self.matches] * 2, self.bindings, self.pattern, self.symbol, *[self.apply] * 2]
+        usual += [self.print_table, self.read_table]
         rare: List[Callable[[], object]] = [self.specify, *[self.normalise] * 4, self.eval_terms, *[self.limit] * 2]
+        rare += [self.call_symbol] * 4
         counted = 0
         while counted < count:
             if len(self.model.at) == CELLS and self.dice.random() < 0.02 or self.dice.random() < 0.0002:

@@ -15,7 +15,7 @@ import random
 import re
 import sys
 import threading
-from typing import Any, Callable, Iterable, Iterator, List, NoReturn, Optional, Sequence, Set, Tuple
+from typing import Any, Callable, Dict, Iterable, Iterator, List, NoReturn, Optional, Sequence, Set, Tuple
 
 sys.path.insert(0, os.path.dirname(os.path.dirname(os.path.realpath(__file__))))
 
@@ -257,6 +257,66 @@ def read(text: bytes) -> Tree:
     return Reader(text).whole()
 
 
+# ---- tables, in which `<k>` is an earlier element and `<[t]>` a placeholder
+
+
+def within(tree: Tree) -> Tuple[Tree, ...]:
+    return (*tree[2], *tree[3])
+
+
+def subterms_of(tree: Tree, found: Dict[Tree, int]) -> Dict[Tree, int]:
+    """Adds the different subterms of a tree, each after those inside of it, and how often they are used."""
+    if tree not in found:
+        for it in within(tree):
+            subterms_of(it, found)
+            found[it] += 1
+        found[tree] = 0
+    return found
+
+
+def table_of(tree: Tree) -> Tree:
+    """The table of a tree."""
+    shared = [it for it, uses in subterms_of(tree, {}).items() if uses > 1 and len(text_of(it)) > 8]
+
+    def element(it: Tree) -> Tree:
+        kind, value, inside, annotations = it
+        items = tuple(map(written, inside))
+        return (kind, value, (listed(items),) if kind == HOLE else items, tuple(map(written, annotations)))
+
+    def written(it: Tree) -> Tree:
+        return (HOLE, None, (integer(shared.index(it)),), ()) if it in shared else element(it)
+
+    return listed([*map(element, shared), written(tree)])
+
+
+class Unopened(Exception):
+    """A tree is no table, by a rule."""
+
+
+def opened(tree: Tree, earlier: Sequence[Tree]) -> Tree:
+    """The tree of an element, after those with these trees."""
+    kind, value, inside, annotations = tree
+    if kind == HOLE:
+        inner: Tree = inside[0]
+        number: int = inner[1] if inner[0] == INT and not inner[3] and not annotations else -1
+        if 0 <= number < len(earlier):
+            return earlier[number]
+        if inner[0] != LIST or len(inner[2]) != 1 or inner[3]:
+            raise Unopened("R2")
+        inside = inner[2]
+    return (kind, value, tuple(opened(it, earlier) for it in inside), tuple(opened(it, earlier) for it in annotations))
+
+
+def tree_of_table(tree: Tree) -> Tree:
+    kind, _, elements, annotations = tree
+    if kind != LIST or not elements or annotations:
+        raise Unopened("R1")
+    trees: List[Tree] = []
+    for it in elements:
+        trees.append(opened(it, trees))
+    return trees[-1]
+
+
 # ---- patterns, by section 3
 
 
@@ -412,7 +472,7 @@ class Caller:
         self.left = count
         usual: List[Callable[[], None]] = [self.spell, self.build, self.take_apart, self.compare, self.symbol] * 3
         usual += [self.match, self.make, self.pattern, self.misspell, self.drop, self.annotate, self.copy_and_print]
-        usual.append(self.limits)
+        usual += [self.limits, self.tables]
         rare = [self.normalise, self.normalise, self.reclaim, self.specify, self.numbers, self.other_stores, self.names]
         while self.left > 0:
             self.at = self.dice.choice(self.shared)
@@ -548,6 +608,43 @@ class Caller:
                 except OutOfCells:
                     continue
             raise Wrong(f"{text!r} is read with {fewer}, and takes {cells}, {names}")
+
+    def tables(self) -> None:
+        """The table of a term, which is read again, and some table or a term that is none."""
+        term, tree = self.pick()
+        self.count(2)
+        text = text_of(table_of(tree))
+        same("table", text, term.table())
+        same("the tree of its table", tree, tree_of_table(table_of(tree)))
+        same("the term of its table", True, self.store.parse_table(text) is term)
+        table = listed(self.some_element(2, it) for it in range(self.dice.choice((0, 1, 2, 2, 3, 4))))
+        if self.dice.random() < 0.05:
+            table = noted(table, [integer(1)])
+        text = self.some_text(table)
+        self.at.tried |= names_of(table, set())
+        try:
+            wanted = tree_of_table(table)
+        except Unopened as unopened:
+            try:
+                self.store.parse_table(text)
+            except RuleFault as fault:
+                same(f"the fault of {text!r}", (unopened.args[0], None), (fault.reason, fault.place))
+                return
+            raise Wrong(f"{text!r} is a table")
+        made = self.store.parse_table(text)
+        self.at.names |= names_of(table, set())
+        self.checked("parse_table", wanted, made)
+
+    def some_element(self, depth: int, count: int) -> Tree:
+        """A tree in an element of a table after `count` others."""
+        if count and self.dice.random() < 0.4:
+            places = (-1, count, 2**31 - 1) if self.dice.random() < 0.02 else range(count)
+            return (HOLE, None, (integer(self.dice.choice(places)),), ())
+        kind, value, inside, annotations = self.some_tree(depth)
+        items = tuple(self.some_element(depth - 1, count) for _ in inside)
+        if kind == HOLE and self.dice.random() < 0.98:
+            items = (listed(items),)
+        return (kind, value, items, annotations and (self.some_element(0, count),))
 
     def misspell(self) -> None:
         """A text with some bytes changed, which is in the grammar or not."""

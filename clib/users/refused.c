@@ -55,8 +55,8 @@ struct shown {
     char text[64], terms[4][64];
 };
 
-static psilt_term terms[4], inside[3];
-static size_t pattern, whole, symbol;
+static psilt_term terms[4], inside[3], values[2];
+static size_t pattern, whole, symbol, plus;
 
 static void text_of(psilt *p, char *into)
 {
@@ -94,14 +94,16 @@ static bool begin(psilt *p)
         && psilt_read(p, BYTES("plus(s(z),s(z))"), &terms[3]) == PSILT_OK
         && psilt_spec(p, BYTES(three), 1000, 100) == PSILT_OK
         && psilt_symbol(p, BYTES("g"), false, 2, &symbol) == PSILT_OK
+        && psilt_symbol(p, BYTES("plus"), false, 2, &plus) == PSILT_OK
+        && psilt_read(p, BYTES("s(s(s(z)))"), &values[0]) == PSILT_OK
         && psilt_pattern(p, BYTES("<int>"), &pattern) == PSILT_OK
         && psilt_pattern(p, BYTES("h(<term>,[<int>,<list>])"), &whole) == PSILT_OK
         && psilt_match(p, pattern, terms[2], &len) == PSILT_OK
         && psilt_read(p, BYTES("f(,)"), &out) == PSILT_SYNTAX && psilt_print(p, terms[0], &len) == PSILT_OK;
 }
 
-/* 2,000 elements, and a name of 3,000 bytes. */
-static uint8_t long_text[5000], long_name[3000];
+/* 2,000 elements, a name of 3,000 bytes, and a table that has one element 1,000 times in the last one. */
+static uint8_t long_text[5000], long_name[3000], long_table[5000];
 static psilt_term many[2000];
 
 static uint32_t calls(psilt *p, int call, uint32_t *out)
@@ -152,18 +154,30 @@ static uint32_t calls(psilt *p, int call, uint32_t *out)
             code = psilt_obey(p, &other);
         psilt_close(&other);
         return code;
+    case 23: return psilt_call(p, plus, values, 2, 1000, out, &taken);
+    case 24: return psilt_print_table(p, terms[0], &len);
+    case 25: return psilt_read_table(p, BYTES((const char *)long_table), out);
     default: return psilt_nil(p, out);
     }
 }
 
 static const char *const NAMES[] = {"open", "read", "print", "name", "int", "cons", "appl", "hole", "annotate",
     "reserve", "reclaim", "spec", "normalise", "eval_term", "symbol", "apply", "pattern", "match", "make", "whole",
-    "known", "print_within", "obey", "nil"};
+    "known", "print_within", "obey", "call", "print_table", "read_table", "nil"};
 
 static void fails(const char *what, const char *name, long n)
 {
     printf("%s: %s where request %ld is refused\n", name, what, n);
     failures++;
+}
+
+/* Whether the call may leave what it made up to the refusal. */
+static bool may_leave_parts(int call)
+{
+    switch (call) {
+    case 1: case 6: case 12: case 13: case 15: case 19: case 23: case 25: return true;
+    default: return false;
+    }
 }
 
 /* Whether the call, of whose requests the n-th is refused, makes so many. */
@@ -180,6 +194,7 @@ static bool is_tried(int call, long n)
     inside[0] = terms[0];
     inside[1] = terms[2];
     inside[2] = terms[1];
+    values[1] = values[0];
     show(&p, &before);
     asked = 0;
     refused_at = n;
@@ -193,12 +208,12 @@ static bool is_tried(int call, long n)
             fails("a number is written", NAMES[call], n);
         show(&p, &after);
         /* what was made, up to the refusal, may stay, and an evaluation forgets bindings */
-        if (call == 1 || call == 6 || call == 12 || call == 13 || call == 15 || call == 19) {
+        if (may_leave_parts(call)) {
             if (after.cells < before.cells)
                 fails("fewer cells", NAMES[call], n);
             after.cells = before.cells;
         }
-        if (call == 12 || call == 13)
+        if (call == 12 || call == 13 || call == 23)
             after.bound = before.bound;
         if (memcmp(&before, &after, sizeof before) != 0)
             fails("the handle changed", NAMES[call], n);
@@ -217,7 +232,7 @@ static void asks_first(void)
     static uint8_t text[16777217];
     psilt p = PSILT_INIT;
     size_t number = 0;
-    psilt_term out = 0, none = 4294967295u;
+    psilt_term out = 0, none = 4294967295u, stale[2] = {4294967295u, 4294967295u};
     uint64_t taken;
     bool right;
     if (!begin(&p))
@@ -226,6 +241,7 @@ static void asks_first(void)
     refused_at = 1;
 #define FIRST(call) (asked = 0, call)
     right = FIRST(psilt_read(&p, text, sizeof text, &out)) == PSILT_RANGE
+        && FIRST(psilt_read_table(&p, text, sizeof text, &out)) == PSILT_RANGE
         && FIRST(psilt_pattern(&p, text, sizeof text, &number)) == PSILT_RANGE
         && FIRST(psilt_spec(&p, text, sizeof text, 0, 1)) == PSILT_RANGE
         && FIRST(psilt_spec(&p, text, 1, 0, 0)) == PSILT_RANGE
@@ -241,8 +257,12 @@ static void asks_first(void)
         && FIRST(psilt_make(&p, pattern, &none, 1, &out)) == PSILT_STALE
         && FIRST(psilt_reclaim(&p, &none, 1)) == PSILT_STALE
         && FIRST(psilt_normalise(&p, none, 1, &out, &taken)) == PSILT_STALE
+        && FIRST(psilt_call(&p, 99, &none, 1, 1, &out, &taken)) == PSILT_UNKNOWN
+        && FIRST(psilt_call(&p, plus, &none, 1, 1, &out, &taken)) == PSILT_RANGE
+        && FIRST(psilt_call(&p, symbol, stale, 2, 1, &out, &taken)) == PSILT_STALE
         && FIRST(psilt_print(&p, none, &number)) == PSILT_STALE
-        && FIRST(psilt_print_within(&p, none, 9, &number)) == PSILT_STALE;
+        && FIRST(psilt_print_within(&p, none, 9, &number)) == PSILT_STALE
+        && FIRST(psilt_print_table(&p, none, &number)) == PSILT_STALE;
     refused_at = 0;
     if (!right)
         fails("another code comes first", "codes", 1);
@@ -256,8 +276,12 @@ int main(void)
     for (i = 0; i < 2499; i++)
         memcpy(long_text + 2 * i, i == 2498 ? "7]" : i == 0 ? "[1" : ",7", 2);
     memset(long_name, 'n', sizeof long_name);
+    strcpy((char *)long_table, "[pair(u,\"v\"){w},h([<0>");
+    for (i = 0; i < 1000; i++)
+        strcat((char *)long_table, ",<0>");
+    strcat((char *)long_table, "],<[<0>]>){<0>}]");
     asks_first();
-    for (call = 0; call < 24; call++)
+    for (call = 0; call < 27; call++)
         for (n = 1; is_tried(call, n); n++)
             tried++;
     if (failures)

@@ -53,6 +53,10 @@ TOP = os.path.dirname(os.path.dirname(os.path.dirname(os.path.realpath(__file__)
 ADD = '''REC-SPEC Add SORTS Nat CONS z : -> Nat s : Nat -> Nat OPNS plus : Nat Nat -> Nat VARS X Y : Nat
 RULES plus(z,Y) -> Y plus(s(X),Y) -> s(plus(X,Y)) EVAL plus(s(s(z)),s(z)) z END-SPEC'''
 
+PAIRS = '''REC-SPEC Pairs SORTS Nat Pair CONS z : -> Nat s : Nat -> Nat p : Nat Nat -> Pair
+OPNS dup : Nat -> Pair 2p : Nat -> Pair plus : Nat Nat -> Nat VARS X Y : Nat
+RULES dup(X) -> p(X,X) 2p(X) -> p(z,X) plus(z,Y) -> Y plus(s(X),Y) -> s(plus(X,Y)) END-SPEC'''
+
 
 class WithStore(unittest.TestCase):
     def setUp(self) -> None:
@@ -132,6 +136,52 @@ class Terms(WithStore):
         fault = self.fails(RULE, self.store.specify, "REC-SPEC A SORTS B B END-SPEC")
         self.assertEqual((fault.rule, fault.place), (1, 19))
         self.assertEqual(len(spec.terms), 2)
+
+    def test_calling(self) -> None:
+        spec = self.store.specify(PAIRS)
+        one, two = self.store.parse("s(z)"), self.store.parse("s(s(z))")
+        self.assertEqual(spec.call("plus", one, one), (two, 2))
+        self.assertEqual(spec.call(self.store.symbol("plus", 2), one, one, steps=2), (two, 2))
+        self.assertEqual(spec.call("s", one, steps=0), (two, 0))
+        self.assertEqual(spec.call(b"z"), (self.store.parse("z"), 0))
+        # an argument is not evaluated, and keeps its annotations
+        pair, steps = spec.call("dup", self.store.parse("plus(z,z){note}"))
+        self.assertEqual((str(pair), steps), ("p(plus(z,z){note},plus(z,z){note})", 1))
+        # a name that is not plain is quoted
+        pair, steps = spec.call("2p", one)
+        self.assertEqual((str(pair), steps), ("p(z,s(z))", 1))
+        self.store.reclaim()
+        self.assertEqual((str(one), str(two), str(pair)), ("s(z)", "s(s(z))", "p(z,s(z))"))
+        # a term of 2^60 leaves
+        tree = self.store.parse("leaf")
+        grow = self.store.specify("REC-SPEC T SORTS T CONS leaf : -> T node : T T -> T OPNS dup : T -> T VARS X : T "
+                                  "RULES dup(X) -> node(X,X) END-SPEC")
+        for _ in range(60):
+            tree, steps = grow.call("dup", tree)
+        self.assertEqual((steps, tree.arity), (1, 2))
+        self.assertRaises(percalesilt.RangeFault, tree.text, 1000000)
+
+    def test_what_is_not_called(self) -> None:
+        spec = self.store.specify(PAIRS)
+        one, pair = self.store.parse("s(z)"), self.store.parse("p(z,z)")
+        self.fails(LIMIT, spec.call, "plus", one, one, steps=1)
+        rules = [("minus", (one,), 4), ("plus", (one,), 5), ("dup", (pair,), 6), ("dup", (7,), 6), ("dup", ([],), 6)]
+        for name, values, rule in rules:
+            fault = self.fails(RULE, spec.call, name, *values)
+            self.assertEqual((fault.rule, fault.reason, fault.place), (rule, f"T{rule}", None))
+        self.fails(RULE, spec.call, self.store.symbol("dup", 1, quoted=True), one)
+        self.fails(RANGE, spec.call, self.store.symbol("dup", 1), one, one)
+        self.fails(UNKNOWN, spec.call, Store().symbol("dup", 1), one)
+        self.fails(STALE, spec.call, "dup", Store().parse("z"))
+        for steps in (-1, 2**64):
+            with self.assertRaises((OverflowError, ValueError)):
+                spec.call("dup", one, steps=steps)
+        self.assertRaises(TypeError, spec.call, "dup", "z")
+        self.assertRaises(TypeError, spec.call, 7, one)
+        names = self.store.names
+        spec.free()
+        self.fails(UNSPECIFIED, spec.call, "new", one)
+        self.assertEqual(self.store.names, names)
 
     def test_one_specification_at_a_time(self) -> None:
         first = self.store.specify(ADD)
@@ -280,6 +330,74 @@ class Terms(WithStore):
             self.assertIn(f"psilt_code psilt_{name}(", text)
         self.assertEqual(text.count("\npsilt_code psilt_"), len(percalesilt.CALLS))
         self.assertIn("typedef uint32_t psilt_code;", text)
+
+
+class Tables(WithStore):
+    """Texts in which each shared subterm is written once."""
+
+    def test_tables(self) -> None:
+        tables = {
+            "a": "[a]",
+            "[]": "[[]]",
+            "f(pair(a,b),pair(a,b),<7>)": "[pair(a,b),f(<0>,<0>,<[7]>)]",
+            # a text of 8 bytes is not shared
+            "f(pai(a,b),pai(a,b))": "[f(pai(a,b),pai(a,b))]",
+            "[pair(a,b){c},g(pair(a,b){c}),g(pair(a,b){c})]": "[pair(a,b){c},g(<0>),[<0>,<1>,<1>]]",
+            # the printed text of this name has 10 bytes
+            'f(1){"é","é"}': '["\\303\\251",f(1){<0>,<0>}]',
+        }
+        for text, table in tables.items():
+            term = self.store.parse(text)
+            self.assertEqual(term.table(), table.encode())
+            self.assertIs(self.store.parse_table(table), term)
+            self.assertIs(self.store.parse_table(f" {table}\n".encode()), term)
+            with Store() as other:
+                self.assertEqual(other.parse_table(table).table(), table.encode())
+        # what nothing uses, and a short element
+        self.assertIs(self.store.parse_table("[pair(a,b),c,g(<1>)]"), self.store.parse("g(c)"))
+        self.assertIs(self.store.parse_table('["é",<0>]'), self.store.parse('"é"'))
+
+    def test_a_term_of_many_leaves(self) -> None:
+        term = self.store.parse("leaf")
+        for _ in range(60):
+            term = self.store.appl("node", term, term)
+        table = term.table()
+        self.assertEqual(table[:43], b"[node(leaf,leaf),node(<0>,<0>),node(<1>,<1>")
+        self.assertEqual((table[-16:], table.count(b"node")), (b",node(<58>,<58>)]"[-16:], 60))
+        self.assertIs(self.store.parse_table(table), term)
+        with Store() as other:
+            copied = other.parse_table(table)
+            other.reclaim()
+            self.assertEqual((other.cells, copied.table()), (182, table))
+
+    def test_texts_that_spell_no_table(self) -> None:
+        fault = self.fails(SYNTAX, self.store.parse_table, "[a,\n,b]")
+        self.assertEqual((fault.reason, fault.place, fault.line, fault.column), ("A", 4, 2, 1))
+        for text in ("a", "7", "[]", "[a]{b}", "<[a]>", "f([a])"):
+            fault = self.fails(RULE, self.store.parse_table, text)
+            self.assertEqual((fault.reason, fault.rule, fault.place), ("R1", 1, None))
+        numbers = ("<1>", "<-1>", "<2147483647>", "<0>{b}", "<0{b}>")
+        for inside in (*numbers, "<[b,c]>", "<[b]{c}>", "<[]>", "<foo>", "<<0>>"):
+            fault = self.fails(RULE, self.store.parse_table, f"[a,{inside}]")
+            self.assertEqual((fault.reason, fault.rule, fault.place), ("R2", 2, None))
+            self.assertRaises(RuleFault, self.store.parse_table, f"[a,f([{inside}]),b]")
+        words = "R2: placeholder of a table that is not <N>, N being an earlier element, nor <[TERM]>"
+        self.assertEqual(str(fault), words)
+        self.assertEqual(self.fails(RANGE, self.store.parse_table, b" " * (2**24 + 1)).reason, "L1")
+        self.assertRaises(TypeError, self.store.parse_table, 7)
+
+    def test_limits_of_tables(self) -> None:
+        with Store(cells=10, names=4) as store:
+            term = store.parse_table("[pair(a,b),f(<0>,<0>)]")
+            self.assertEqual((store.cells, store.names, str(term)), (10, 4, "f(pair(a,b),pair(a,b))"))
+            self.fails(FULL, store.parse_table, "[new,a]")
+            self.fails(FULL, store.parse_table, "[7]")
+            self.assertEqual(store.names, 4)
+            # the number of the element is freed
+            store.reclaim()
+            self.assertEqual(store.cells, 9)
+        self.fails(CLOSED, term.table)
+        self.fails(CLOSED, store.parse_table, "[a]")
 
 
 class Bounds(WithStore):
@@ -562,7 +680,7 @@ class Objects(WithStore):
         with open(f"{TOP}/crates/recw_cli/src/refusals.rt", encoding="utf-8") as file:
             words = " ".join(file.read().replace("\\\n", " ").split())
         # all but T1, which is of lists of terms
-        self.assertEqual(len(percalesilt.REASONS), 23)
+        self.assertEqual(len(percalesilt.REASONS), 25)
         for sentence in percalesilt.REASONS.values():
             self.assertIn(f'"{sentence}"', words)
 

@@ -4,12 +4,14 @@ ghost use Rattle.std.specs.Prelude.{◌≡◌, ◌≢◌, []};
 ghost use Rattle.rx_term.specs.Store.{tree_at};
 ghost use Rattle.rx_term.specs.Steps.{Keeps};
 ghost use Rattle.psilt_core.specs.Codes.{told};
-ghost use Rattle.psilt_core.specs.Answers.{term_of};
+ghost use Rattle.psilt_core.specs.Answers.{term_of, terms_of};
 ghost use Rattle.psilt_core.specs.Banks.{store_of};
+ghost use Rattle.psilt_core.specs.Calling.{CallsOn};
 ghost use Rattle.psilt_core.specs.Evaluating.{Specifies, Unspecifies, Normalises, CountsTerms};
 ghost use Rattle.psilt_core.specs.Evaluating.{GivesTerm, normalised_of};
 ghost use Rattle.psilt_core.specs.Handles.{OnWork};
 ghost use Rattle.psilt_core.specs.Works.{IsSameButBound, IsSameButRun, IsSameButSpec, Forgets};
+ghost use Rattle.psilt_core.specs.Works.{KeepsRefusal};
 
 use crate::answer::{give, on_work, tell, tell_done, tell_value};
 use psilt_core::Psilt;
@@ -64,6 +66,34 @@ pub extern "C" fn psilt_normalise(
 {
     tell_value(
         on_work!(psilt, alloc, work, work.normalise(alloc, Term(term), steps)),
+        value,
+        taken,
+    )
+}
+
+/// Evaluates the call of a symbol on values with a limit of `steps` steps. Writes its value and the
+/// number of steps.
+#[unsafe(no_mangle)]
+pub extern "C" fn psilt_call(
+    alloc: Global,
+    psilt: &mut Psilt,
+    symbol: usize,
+    args: &[u32],
+    steps: u64,
+    value: &mut u32,
+    taken: &mut u64,
+) -> u32
+    ensures answer { OnWork psilt.old psilt.new result
+        (λ v w. CallsOn v.bank w.bank symbol args.now steps w.rule
+        (told result (normalised_of value.new taken.new))
+        × Keeps (store_of v.bank) (store_of w.bank) (terms_of args.now)
+        × Forgets v.bound.items w.bound.items (told result (normalised_of value.new taken.new))
+        × KeepsRefusal v w (told result (normalised_of value.new taken.new))
+        × (w.place ≡ v.place) × IsSameButRun v w) }
+    ensures kept { result ≢ 0 → (value.new ≡ value.old) × (taken.new ≡ taken.old) }
+{
+    tell_value(
+        on_work!(psilt, alloc, work, work.call(alloc, symbol, args, steps)),
         value,
         taken,
     )

@@ -35,5 +35,6 @@ pub mod matching;
 pub mod naming;
 pub mod reading;
 pub mod stopping;
+pub mod tables;
 pub mod texts;
 pub mod version;

@@ -23,6 +23,9 @@ use Rattle.rec_engine.specs.declared.engine.Controlled.{Controlled}
 use Rattle.rec_engine.specs.declared.engine.Controlled.TheVariants.{Ended, Stopped}
 use Rattle.rec_engine.specs.declared.engine.Outcome.{Outcome}
 use Rattle.psilt_core.specs.Banks.{BankState, Specified, IsSpecified, IsSameButTerms, store_of}
+use Rattle.psilt_core.specs.Inner.Engines.{with_engine}
+use Rattle.psilt_core.specs.declared.limited.LimitedBank.{LimitedBank}
+use Rattle.rec_engine.specs.declared.engine.Engine.{Engine}
 use Rattle.rec_engine.specs.declared.engine.Outcome.TheVariants as outcome
 use Rattle.psilt_core.specs.Evaluating.{IsRoom, IsRoomFault, IsFilledBy, IsFilledWith, IsCollected, LacksCells, HasTree, ComesTo, Comes, Normalises, told_of}
 use Rattle.psilt_core.specs.Works.{IsSameButBank}
@@ -34,11 +37,40 @@ use Rattle.psilt_core.specs.declared.work.Work.{Work}
 in_here : {A : Type 0} (a : A) (xs : List A) → Contains (a ∷ xs) a
 in_here a xs = (zero, omega arith, refl)
 
+-- what holds of each answer holds of this one
+pub of_ok : {A E : Type 0} (P : A → Type 0) (r : Result A E) (a : A) → r ≡ Ok a → IfOk r P → P a
+of_ok P r a e h = subst (λ x. IfOk x P) e h
+
+pub of_err : {A E : Type 0} (P : E → Type 0) (r : Result A E) (a : E) → r ≡ Err a → IfErr r P → P a
+of_err P r a e h = subst (λ x. IfErr x P) e h
+
 -- what holds of the specification of an engine and of its store, holds of those of the bank
 pub on_spec : {A E : Type 0} (b : BankState) (s : Specified) (y : Spec) (w w' : Store) (Q : Spec → Store → A → Type 0) (r : Result A E)
     → b.specified ≡ Some s → y ≡ s.spec → w ≡ w' → IfOk r (Q y w) → IfOk r (λ a. IsSpecified b (λ z. Q z w' a))
 on_spec b s y w w' Q (Ok a) e f g h = (s, e, subst (λ z. Q z w' a) f (subst (λ v. Q y v a) g h))
 on_spec b s y w w' Q (Err x) e f g h = tt
+
+-- the same of what was refused
+pub on_spec_err : {A E : Type 0} (b : BankState) (s : Specified) (y : Spec) (w w' : Store) (Q : Spec → Store → E → Type 0) (r : Result A E)
+    → b.specified ≡ Some s → y ≡ s.spec → w ≡ w' → IfErr r (Q y w) → IfErr r (λ a. IsSpecified b (λ z. Q z w' a))
+on_spec_err b s y w w' Q (Ok a) e f g h = tt
+on_spec_err b s y w w' Q (Err x) e f g h = (s, e, subst (λ z. Q z w' x) f (subst (λ v. Q y v x) g h))
+
+-- the same of a bank whose engine was taken out
+module _ (b : BankState) (e : Engine LimitedBank) (most : ℕ) (symbols : List ℕ) (parts : b ≡ with_engine e most symbols) where
+  abbrev taken : Specified
+  taken = record { spec = e.spec; options = e.options }
+
+  is_taken : b.specified ≡ Some taken
+  is_taken = ap (λ (x : BankState). x.specified) parts
+
+  pub on_engine : {A E : Type 0} (y : Spec) (w w' : Store) (Q : Spec → Store → A → Type 0) (r : Result A E) → y ≡ e.spec → w ≡ w' → IfOk r (Q y w)
+      → IfOk r (λ a. IsSpecified b (λ z. Q z w' a))
+  on_engine y w w' Q r f g h = on_spec b taken y w w' Q r is_taken f g h
+
+  pub on_engine_err : {A E : Type 0} (y : Spec) (w w' : Store) (Q : Spec → Store → E → Type 0) (r : Result A E) → y ≡ e.spec → w ≡ w'
+      → IfErr r (Q y w) → IfErr r (λ a. IsSpecified b (λ z. Q z w' a))
+  on_engine_err y w w' Q r f g h = on_spec_err b taken y w w' Q r is_taken f g h
 
 -- what the engine answers where cells ran out
 pub lacks_cells : {A : Type 0} (b : BankState) (w : Store) (work : List Term) (m : Pairs) (r : Result A EngineFault) → w ≡ store_of b → b.memo ≡ Some m
@@ -152,10 +184,10 @@ same-some : {X : Type 0} (a b : X) → Some a ≡ Some b → a ≡ b
 same-some a b e = cc
 
 -- two facts of what is specified are facts of one specification
-both_specified : (b : BankState) (P Q : Spec → Type 0) → IsSpecified b P → IsSpecified b Q → IsSpecified b (λ y. P y × Q y)
+pub both_specified : (b : BankState) (P Q : Spec → Type 0) → IsSpecified b P → IsSpecified b Q → IsSpecified b (λ y. P y × Q y)
 both_specified b P Q h k = (h.0, h.1, (h.2, subst (λ (s : Specified). Q s.spec) (same-some k.0 h.0 (sym k.1 ∙ h.1)) k.2))
 
-specified_map : (b : BankState) (P Q : Spec → Type 0) → ((y : Spec) → P y → Q y) → IsSpecified b P → IsSpecified b Q
+pub specified_map : (b : BankState) (P Q : Spec → Type 0) → ((y : Spec) → P y → Q y) → IsSpecified b P → IsSpecified b Q
 specified_map b P Q f h = (h.0, h.1, f h.0.spec h.2)
 
 -- a specified term to evaluate

@@ -9,3 +9,6 @@ pub mod PatternLemmas
 pub mod SymbolLemmas
 pub mod NameLemmas
 pub mod MatchingLemmas
+pub mod CallingLemmas
+pub mod ArgumentLemmas
+pub mod CallLemmas

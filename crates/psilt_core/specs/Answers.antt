@@ -1,6 +1,6 @@
 -- The results of calls on references: each error has one meaning, and so has each success.
-use Rattle.std.specs.Prelude.{◌≡◌, ◌≢◌, ℕ, zero, suc, ◌+◌, ◌-◌, ◌<◌, ◌≤◌, ◌^◌, ℤ, Bool, true, false}
-use Rattle.std.specs.Prelude.{List, ◌++◌, length, drop, map, Option, Some, None, Result, Ok, Err}
+use Rattle.std.specs.Prelude.{◌≡◌, ◌≢◌, ◌⊎◌, ℕ, zero, suc, ◌+◌, ◌-◌, ◌<◌, ◌≤◌, ◌^◌, ℤ, Bool, true}
+use Rattle.std.specs.Prelude.{false, List, ◌++◌, length, drop, map, Option, Some, None, Result, Ok, Err}
 use Rattle.std.specs.Prelude.{IsSome, is_some}
 use Rattle.std.specs.List.{list_all}
 use Rattle.std.specs.Option.{option_and_then}
@@ -10,7 +10,7 @@ use Rattle.rx_term.specs.Store.{Store, tree_at, part_at, args_of}
 use Rattle.rx_term.specs.Kinds.{HasInt, HasNil, HasCons, HasAppl, HasHole}
 use Rattle.rx_term.specs.Steps.{Makes, Refuses, Grows, Reserves, RefusesReserve, Reclaims}
 use Rattle.rx_term.specs.Steps.{with_count}
-use Rattle.rx_term.specs.Walks.{HaveTrees}
+use Rattle.rx_term.specs.Walks.{HaveTrees, Lists}
 use Rattle.rx_term.specs.declared.Term.{Term}
 use Rattle.rx_term.specs.declared.Symbol.{Symbol}
 use Rattle.rx_term.specs.declared.faults.BankFault.TheVariants as bank
@@ -56,6 +56,15 @@ MakesFrom old new given tree (Err e) = ⊥
 abbrev pub IsApplication : Store → List ℕ → Bool → List ℕ → Option Tree → Type 0
 IsApplication w name quoted args tree = (ts : Trees) × HaveTrees w (terms_of args) (to_list ts)
     × (tree ≡ Some (Appl name quoted ts none))
+
+-- IsRest w args tree: the tree is the list of the trees of these references from some index on
+abbrev pub IsRest : Store → List ℕ → Tree → Type 0
+IsRest w args tree = (k : ℕ) × Lists w (terms_of (drop k args)) (Some tree)
+
+-- AddsRests old new args: each new tree is such a list
+abbrev pub AddsRests : Store → Store → List ℕ → Type 0
+AddsRests old new args = (r : Term) (v : Tree) → tree_at new r ≡ Some v
+    → (tree_at old r ≡ Some v) ⊎ IsRest old args v
 
 -- Applies most old new name quoted args r: the application is made; or nothing changed, since the
 -- name has to be quoted, or else there are too many arguments, or else one is not in the store; or

@@ -2,8 +2,10 @@ pub mod Codes
 pub mod Names
 pub mod Banks
 pub mod Answers
+pub mod Tables
 pub mod Works
 pub mod Evaluating
+pub mod Calling
 pub mod Patterns
 pub mod Symbols
 pub mod Handles

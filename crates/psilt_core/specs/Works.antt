@@ -3,7 +3,7 @@ use Rattle.std.specs.Prelude.{◌≡◌, ℕ, Bool, true, false, ◌&&◌, nat_l
 use Rattle.rx_term.specs.declared.Term.{Term}
 use Rattle.psilt_core.specs.declared.fault.Fault.{Fault}
 use Rattle.psilt_core.specs.declared.fault.Fault.TheVariants.{Memory, Stale, Range, Unspecified}
-use Rattle.psilt_core.specs.declared.fault.Fault.TheVariants.{Syntax, Rule}
+use Rattle.psilt_core.specs.declared.fault.Fault.TheVariants.{Syntax, Rule, Unknown}
 use Rattle.psilt_core.specs.declared.work.Work.{Work}
 use Rattle.psilt_core.specs.Banks.{BankState}
 
@@ -85,9 +85,11 @@ abbrev pub IsSameButSymbols : Work → Work → Type 0
 IsSameButSymbols v w =
     w ≡ record v { bank = record v.bank { shared = w.bank.shared; symbols = w.bank.symbols } }
 
--- Forgets before after r: the bindings are dropped, except after `Unspecified`, `Stale` and `Range`
+-- Forgets before after r: the bindings are dropped, except after `Unspecified`, `Unknown`, `Range` and
+-- `Stale`
 abbrev pub Forgets : {X : Type 0} → List Term → List Term → Result X Fault → Type 0
 Forgets before after (Err Unspecified) = after ≡ before
+Forgets before after (Err Unknown) = after ≡ before
 Forgets before after (Err Stale) = after ≡ before
 Forgets before after (Err Range) = after ≡ before
 Forgets before after r = after ≡ []

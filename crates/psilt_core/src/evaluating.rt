@@ -44,7 +44,7 @@ fn are_options(memo: u32, reclaim: u32) -> bool
 }
 
 /// Returns the error of the library for an error of the term store.
-fn fault_of_bank(fault: BankFault) -> Fault
+pub(crate) fn fault_of_bank(fault: BankFault) -> Fault
     ensures { result ≡ of_bank fault }
 {
     match fault {
@@ -55,7 +55,7 @@ fn fault_of_bank(fault: BankFault) -> Fault
 
 /// Returns the error of the library for an error of the engine; no evaluation here has a depth
 /// limit.
-fn fault_of_engine(fault: EngineFault) -> Fault
+pub(crate) fn fault_of_engine(fault: EngineFault) -> Fault
     requires { fault ≢ Deep }
     ensures { result ≡ of_engine fault }
 {
@@ -67,7 +67,7 @@ fn fault_of_engine(fault: EngineFault) -> Fault
 }
 
 /// Returns the result of the library for the end of an evaluation.
-fn value_or_fault(end: Controlled) -> Result<Normalised, Fault>
+pub(crate) fn value_or_fault(end: Controlled) -> Result<Normalised, Fault>
     ensures { result ≡ told_of end }
 {
     match end {

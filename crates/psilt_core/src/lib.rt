@@ -19,9 +19,9 @@
 //! **Invariants.** The prepared engine and the numbered symbols belong to the term store. A closed
 //! handle owns no work. Symbols are never freed; [`Work::limit_names`] limits their number.
 //!
-//! **Lifetime of terms.** `reclaim`, `normalise` and `eval_term` may collect garbage. A term lives
-//! until then; [`Work::protect`] keeps it longer. A freed reference is reported as `Stale`, but its
-//! number may be that of another term later.
+//! **Lifetime of terms.** `reclaim`, `normalise`, `call` and `eval_term` may collect garbage. A term
+//! lives until then; [`Work::protect`] keeps it longer. A freed reference is reported as `Stale`,
+//! but its number may be that of another term later.
 //!
 //! **Stops.** [`Work::obey`] shares a flag between two handles, and [`Work::request_stop`] sets it,
 //! also while the other handle evaluates. Contracts see nothing of the flag. What a control does to
@@ -32,6 +32,7 @@
 #![tactic(auto, using(rx_term::proofs::StoreLemmas::bank_steps))]
 
 mod bank;
+pub mod calling;
 pub mod evaluating;
 pub mod fault;
 pub mod handle;
@@ -48,6 +49,7 @@ pub mod reading;
 mod running;
 mod spelling;
 pub mod stopping;
+pub mod tables;
 pub mod texts;
 pub mod work;
 

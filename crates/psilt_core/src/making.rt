@@ -8,7 +8,7 @@ ghost use Rattle.rx_term.specs.Steps.{Grows};
 ghost use Rattle.rx_term.specs.Walks.{Lists};
 ghost use Rattle.psilt_core.specs.Banks.{IsSameButTerms, store_of};
 ghost use Rattle.psilt_core.specs.Answers.{are_held, terms_of, is_plain_list, MakesFrom};
-ghost use Rattle.psilt_core.specs.Answers.{Applies, IsApplication};
+ghost use Rattle.psilt_core.specs.Answers.{AddsRests, Applies, IsApplication};
 ghost use Rattle.psilt_core.specs.Evaluating.{IsRoomFault};
 ghost use Rattle.psilt_core.specs.Names.{IsNameFault, KeepsLimit};
 ghost use Rattle.psilt_core.specs.Works.{IsSameButBank};
@@ -166,6 +166,8 @@ pub(crate) fn apply_symbol(bank: &mut Bank, symbol: Symbol, args: &[u32]) -> Res
         → IsApplication (store_of bank.old) g.name g.quoted args.now
         (tree_at (store_of bank.new) r)) }
     ensures full { IfErr result (IsRoomFault (store_of bank.new)) }
+    ensures added { IfErr result
+        (λ e. AddsRests (store_of bank.old) (store_of bank.new) args.now) }
     ensures named { (store_of bank.new).symbols ≡ (store_of bank.old).symbols }
     ensures beside { IsSameButTerms bank.old bank.new }
 {
@@ -180,6 +182,7 @@ fn list(bank: &mut Bank, items: &[u32]) -> Result<Term, BankFault>
     ensures made { IfOk result (λ r. Lists (store_of bank.old) (terms_of items.now)
         (tree_at (store_of bank.new) r)) }
     ensures full { IfErr result (IsRoomFault (store_of bank.new)) }
+    ensures added { AddsRests (store_of bank.old) (store_of bank.new) items.now }
     ensures named { (store_of bank.new).symbols ≡ (store_of bank.old).symbols }
     ensures beside { IsSameButTerms bank.old bank.new }
 {

@@ -18,6 +18,7 @@ ghost use Rattle.rx_shared.specs.State.{store_of as terms_of};
 ghost use Rattle.psilt_core.specs.Names.{names_of, KeepsLimit};
 ghost use Rattle.psilt_core.specs.Banks.{AreSymbols, IsSameButTerms, IsSpecified, specified_by};
 ghost use Rattle.psilt_core.specs.Banks.{store_of};
+ghost use Rattle.psilt_core.specs.Inner.Engines.{with_engine};
 ghost use Rattle.psilt_core.specs.Evaluating.{IsRoom, IsRoomFault, IsCollected, LacksCells};
 ghost use Rattle.psilt_core.specs.Evaluating.{IsFilledWith, IsSpecFault};
 
@@ -124,15 +125,9 @@ fn forget<T: Drop>(place: &mut Option<T>)
 
 impl Bank {
     /// Makes the bank from an engine, the symbols that C knows and the limit on symbols.
-    fn of(engine: Engine<LimitedBank>, most_names: u32, symbols: IndexSet<u64>) -> Bank
+    pub(crate) fn of(engine: Engine<LimitedBank>, most_names: u32, symbols: IndexSet<u64>) -> Bank
         requires { AreSymbols (terms_of engine.bank.shared) symbols.keys }
-        ensures { result ≡ record {
-          shared = engine.bank.shared;
-          most_names = most_names;
-          specified = Some (record { spec = engine.spec; options = engine.options });
-          memo = Some engine.memo;
-          symbols = symbols.keys;
-        } }
+        ensures { result ≡ with_engine engine most_names symbols.keys }
     {
         let (shared, prepared) = engine.apart();
         Bank {
@@ -140,6 +135,25 @@ impl Bank {
             most_names,
             prepared: Some(prepared),
             symbols,
+        }
+    }
+
+    /// Returns the engine over the store of a bank with a specification, the limit on symbols, and
+    /// the symbols that C knows. `of` makes the bank again.
+    pub(crate) fn into_engine(self) -> (Engine<LimitedBank>, u32, IndexSet<u64>)
+        requires { IsSome self.specified }
+        ensures parts { self ≡ with_engine result.0 result.1 result.2.keys }
+        ensures known { AreSymbols (terms_of result.0.bank.shared) result.2.keys }
+    {
+        let Bank {
+            shared,
+            most_names,
+            prepared,
+            symbols,
+        } = self;
+        match prepared {
+            Some(prepared) => (prepared.over(shared), most_names, symbols),
+            None => unreachable!(),
         }
     }
 
@@ -346,26 +360,15 @@ impl Bank {
             (C.has_requested result.1.1) result.1.0 }
         ensures room { IfErr result.1.0 (IsRoom (LacksCells result.0)) }
     {
-        let Bank {
-            shared,
-            most_names,
-            prepared,
-            symbols,
-        } = self;
-        match prepared {
-            Some(prepared) => {
-                let mut engine = prepared.over(shared);
-                let Given {
-                    term,
-                    steps,
-                    mut control,
-                } = given;
-                let limits = Limits { steps, depth: None };
-                let outcome = engine.normalise_controlled(term, limits, &mut control);
-                (Bank::of(engine, most_names, symbols), (outcome, control))
-            }
-            None => unreachable!(),
-        }
+        let (mut engine, most_names, symbols) = self.into_engine();
+        let Given {
+            term,
+            steps,
+            mut control,
+        } = given;
+        let limits = Limits { steps, depth: None };
+        let outcome = engine.normalise_controlled(term, limits, &mut control);
+        (Bank::of(engine, most_names, symbols), (outcome, control))
     }
 
     /// Makes the EVAL term with the index `i`, from 0.
@@ -395,19 +398,8 @@ impl Bank {
         ensures room { IfErr result.1 (IsRoom (IsSpecified self
             (λ y. IsFilledWith result.0 (eval_tree y i)))) }
     {
-        let Bank {
-            shared,
-            most_names,
-            prepared,
-            symbols,
-        } = self;
-        match prepared {
-            Some(prepared) => {
-                let mut engine = prepared.over(shared);
-                let term = engine.eval_term(i);
-                (Bank::of(engine, most_names, symbols), term)
-            }
-            None => unreachable!(),
-        }
+        let (mut engine, most_names, symbols) = self.into_engine();
+        let term = engine.eval_term(i);
+        (Bank::of(engine, most_names, symbols), term)
     }
 }

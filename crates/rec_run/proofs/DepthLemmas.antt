@@ -1,5 +1,5 @@
 -- When a line and a run are too deep.
-use Rattle.std.proofs.Common.{◌≡◌, ◌≢◌, ◌∙◌, ◌<◌, ◌≤◌, ◌+◌, ℕ, zero, suc, List, Option, Some, None, Result, Ok, Err, IfErr, Bool, false, ap, arith, sym, subst, refl}
+use Rattle.std.proofs.Common.{◌≡◌, ◌∙◌, ◌<◌, ◌≤◌, ◌+◌, ℕ, zero, suc, List, Option, None, Result, Ok, Err, IfErr, false, ap, arith, sym, subst, refl}
 use Rattle.std.specs.Prelude.{◌||◌}
 use Rattle.rx_term.specs.Store.{Store}
 use Rattle.rx_term.specs.declared.Term.{Term}

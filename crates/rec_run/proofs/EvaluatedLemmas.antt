@@ -1,6 +1,6 @@
 -- From what an engine answers to the lines that are due.
 use Rattle.std.proofs.Common.{◌≡◌, ◌≢◌, ℕ, ◌+◌, ◌-◌, ◌<◌, ◌^◌, Bool, true, cond, List, [], ◌++◌, Option, Some, None}
-use Rattle.std.proofs.Common.{IsSome, IfErr, IfSome, Result, Ok, Err, get_or, take, length, refl, sym, ap, ap₂, subst, ◌∙◌, arith, append-nil}
+use Rattle.std.proofs.Common.{IsSome, IfSome, get_or, take, length, refl, sym, ap, ap₂, subst, ◌∙◌, arith, append-nil}
 use Rattle.std.specs.Prelude.{◌||◌, codes, decimal, false, is_some, unwrap_or}
 use Rattle.std.specs.Option.{option_map}
 use Rattle.std.specs.Io.KnownBytes.{Appends}
@@ -12,7 +12,6 @@ use Rattle.rx_term.specs.Steps.{IsSound, Keeps, with_count}
 use Rattle.rx_term.proofs.KeepLemmas.{kept-root}
 use Rattle.rx_term.specs.Store.{Store, tree_at}
 use Rattle.rx_term.specs.declared.Term.{Term as Reference}
-use Rattle.rx_text.specs.Canon.{canon}
 use Rattle.rx_text.specs.Written.{AppendsFront, IsFront}
 use Rattle.rx_text.proofs.CuttingLemmas.{and_parts}
 use Rattle.rec_syntax.specs.Syntax.{Term, Terms, Apply, Spec, nameless}
@@ -27,9 +26,8 @@ use Rattle.rec_engine.specs.declared.engine.Outcome.{Outcome}
 use Rattle.rec_engine.specs.declared.engine.Outcome.TheVariants.{Value, Limit}
 use Rattle.rec_memo.specs.Pairs.{Pairs}
 use Rattle.rec_run.specs.EvaluatedLines.{IsThereFor, ProtectsTerms, RunLacks, StaysFor, due_before, outcome_text, fault_after, limit_notes, said}
-use Rattle.rec_run.specs.EvaluatedLines.{is_limit_line, outcome_line, unsaid, value_of}
+use Rattle.rec_run.specs.EvaluatedLines.{figures_of, is_limit_line, outcome_line, unsaid, value_of}
 use Rattle.rec_run.specs.GivenTerms.{HoldsTerms, given_at, given_text, item_at}
-use Rattle.rx_run.specs.Due.{steps_text}
 use Rattle.rec_run.specs.Reading.{line_text, evaluation_text, term_at, text_at}
 use Rattle.rx_run.specs.Run.{Reports, ReportsAfter, Stops, StopsAfter}
 use Rattle.rx_text.specs.Output.{IsSameOutput}
@@ -38,11 +36,12 @@ use Rattle.rx_run.specs.Streams.{is_read, is_write}
 use Rattle.rx_run.specs.declared.ending.RunFault.{RunFault}
 use Rattle.rx_run.specs.declared.ending.RunFault.TheVariants as run
 use Rattle.rec_run.specs.Output.{Shown, limit_text, notes_text, shown_of}
-use Rattle.rec_run.specs.Output.{Printed, Whole, Longer, is_longer, printed, value_text}
+use Rattle.rec_run.specs.Output.{Printed, Whole, Longer, is_longer, value_line, value_text}
 use Rattle.rec_run.specs.declared.options.LimitLines.{LimitLines}
 use Rattle.rec_run.specs.declared.options.LimitLines.TheVariants.{Bare, Annotated}
 use Rattle.rec_run.specs.declared.options.RunSettings.{RunSettings}
-use Rattle.rec_run.proofs.GivenLemmas.{all_trees, annotations_trees, notes-newlines}
+use Rattle.rec_run.proofs.GivenLemmas.{all_trees, annotations_trees}
+use Rattle.rec_run.proofs.LineEndLemmas.{trees-in_line}
 use Rattle.rec_run.proofs.GivenListLemmas.{FrontAt}
 use Rattle.rx_run.proofs.LineFrontLemmas.{NoEnds, ends_before, front_in_line, front_in_lines, lines_of}
 use Rattle.rec_run.proofs.SpecLineLemmas.{given_text-newlines}
@@ -69,9 +68,8 @@ outcome_text-line y w s u (Value r steps) h =
     let n = s.options.steps in
     let spent = h.spent in
     let back : steps ≡ n - h.left = omega (arith, spent) in
-    value_said s.limits (annotations u) (steps_text s.options.count steps) (value_of s.form w r)
-    ∙ ap₂ (λ t k. value_text s.limits (annotations u) (steps_text s.options.count k) (printed s.form (canon t)))
-    (ap (λ o. unwrap_or o (list_of none)) h.there) back
+    value_said s.limits (annotations u) (figures_of s w r steps) (value_of s.form w r)
+    ∙ ap₂ (λ t k. value_line (shown_of s) (annotations u) k t) (ap (λ o. unwrap_or o (list_of none)) h.there) back
     ∙ ap (evaluation_text (annotations u) (shown_of s) n) (sym h.evaluated)
 outcome_text-line y w s u Limit h = line_said s.limits s.options.steps (annotations u)
     ∙ ap (evaluation_text (annotations u) (shown_of s) s.options.steps) (sym h)
@@ -245,7 +243,7 @@ pub held_no_ends : (y : Spec) (w : Store) (list : Reference) (shown : Shown) (n 
 held_no_ends y w list shown n few sound holds k d low =
     let us = given_at w list in
     let valid = (and_parts (are_trees (from_list us)) true (sound.valid list (list_of (from_list us)) holds.held)).0 in
-    given_text-newlines y shown n few (get_or us k d) (notes-newlines (annotations (get_or us k d))
+    given_text-newlines y shown n few (get_or us k d) (trees-in_line (annotations (get_or us k d))
     (annotations_trees (get_or us k d) (all_trees us valid k d low)))
 
 -- ---- a protected list

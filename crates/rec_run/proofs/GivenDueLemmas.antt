@@ -1,6 +1,6 @@
 -- From what was read of the text of terms to what is due for it.
 use Rattle.std.proofs.Common.{◌≡◌, ℕ, ◌+◌, List, Option, Some, None, Result, Ok, Err, IfErr, IfOk}
-use Rattle.std.proofs.Common.{IfSome, IsErrAnd, IsSome, OnOk, take, refl, sym, ap, subst, ◌∙◌, arith}
+use Rattle.std.proofs.Common.{IfSome, IsErrAnd, IsSome, OnOk, take, refl, sym, ap, subst, arith}
 use Rattle.std.specs.Prelude.{option_map}
 use Rattle.std.specs.declared.vec.Vec.{Vec}
 use Rattle.std.proofs.lemmas.List.{length-take}
@@ -17,14 +17,13 @@ use Rattle.rec_sorts.specs.TermsFaults.{IsTermsFault}
 use Rattle.rec_sorts.specs.declared.fault.TermsFault.{TermsFault}
 use Rattle.rec_sorts.specs.declared.fault.TermsFault.TheVariants as rule
 use Rattle.rec_run.specs.GivenTerms.{EndsRefused, HoldsList, HoldsTerms, IsJobAfter, IsJobRead, IsListRead, IsReadAs, IsReadFor, IsReadFrom, IsReady, IsRefusal}
-use Rattle.rec_run.specs.GivenTerms.{IsRefused, IsTermsRead, refused_terms, OnGoodSpec, OnRefusedSpec, job_alone_of, job_of, list_refused}
+use Rattle.rec_run.specs.GivenTerms.{IsTermsRead, refused_terms, OnGoodSpec, OnRefusedSpec, job_of, list_refused}
 use Rattle.rx_run.specs.TermRuns.{IsReadingOf}
 use Rattle.rec_run.specs.Output.{GoodTerms, BreaksTerms, TooLong, Outside, Shown, TermsVerdict, IsTermsVerdict, due_of_terms}
 use Rattle.rx_run.specs.Run.{StopsReading}
 use Rattle.rec_run.proofs.FaultLemmas.{reading_has_room}
 use Rattle.rec_run.specs.Reading.{IsGood, IsSpecRead, IsSpecReading, KeepsText}
 use Rattle.rx_run.specs.Refusals.{refusal_due, refused_text}
-use Rattle.rec_run.specs.Reading.{refused_spec}
 use Rattle.rec_run.specs.InputTerms.{IsFrontOf}
 use Rattle.rec_run.specs.Run.{HasRoom, Texts, both_texts}
 use Rattle.rx_run.specs.declared.ending.RunFault.{RunFault}

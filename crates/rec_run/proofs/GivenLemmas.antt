@@ -9,16 +9,10 @@ use Rattle.rx_term.specs.Name.{is_name}
 use Rattle.rx_term.specs.Store.{Store, tree_at}
 use Rattle.rx_term.specs.declared.Term.{Term as Reference}
 use Rattle.rx_term.proofs.TreeLemmas.{from_to_list}
-use Rattle.rx_text.specs.Canon.{canon, canon_all}
 use Rattle.rx_text.proofs.CuttingLemmas.{and_parts}
-use Rattle.rx_text.proofs.InLineLemmas.{stays_in_line}
 use Rattle.rec_syntax.specs.Syntax.{Spec}
 use Rattle.rec_sorts.specs.TermRules.{elements, first_passed, broken_by_elements, broken_by_terms}
-use Rattle.rx_run.specs.Bytes.{newlines}
 use Rattle.rec_run.specs.GivenTerms.{HoldsTerms, given_at}
-use Rattle.rec_run.specs.Output.{notes_text}
-use Rattle.rx_run.proofs.NewlineLemmas.{newlines-append}
-use Rattle.rx_run.proofs.TermDueLemmas as due
 
 either_false : (a b : Bool) → a || b ≡ false → (a ≡ false) × (b ≡ false)
 either_false true b e = absurd (cc e)
@@ -49,23 +43,6 @@ annotations_trees (Int z anns) h = (and_parts (is_i32 z) (are_trees anns) h).1
 annotations_trees (Appl name quoted args anns) h = (and_parts (is_name name quoted && are_trees args) (are_trees anns) h).1
 annotations_trees (Items items anns) h = (and_parts (are_trees items) (are_trees anns) h).1
 annotations_trees (Hole inner anns) h = (and_parts (is_tree inner) (are_trees anns) h).1
-
--- annotations have no line end
-pub notes-newlines : (notes : Trees) → are_trees notes ≡ true → newlines (notes_text notes) ≡ 0
-notes-newlines none h = refl
-notes-newlines (more t ts) h =
-    let text = canon_all (more t ts) in
-    let valid : is_tree (list_of (more t ts)) ≡ true = ap (λ b. b && true) h in
-    let whole : newlines (canon (list_of (more t ts))) ≡ 0 = due.in_line-newlines (canon (list_of (more t ts))) (stays_in_line (list_of (more t ts)) valid).0 in
-    let front = newlines-append (91 ∷ []) (text ++ 93 ∷ []) in
-    let back = newlines-append text (93 ∷ []) in
-    let braces = newlines-append (123 ∷ text) (125 ∷ []) in
-    let brace = newlines-append (123 ∷ []) text in
-    let left : newlines (91 ∷ []) ≡ 0 = refl in
-    let right : newlines (93 ∷ []) ≡ 0 = refl in
-    let left_brace : newlines (123 ∷ []) ≡ 0 = refl in
-    let right_brace : newlines (125 ∷ []) ≡ 0 = refl in
-    omega (arith, whole, front, back, braces, brace, left, right, left_brace, right_brace)
 
 -- a list is what its elements say
 pub list_elements : (t : Tree) (us : List Tree) → elements t ≡ Some us → t ≡ list_of (from_list us)

@@ -6,6 +6,7 @@ pub mod RunEndLemmas
 pub mod GivenDueLemmas
 pub mod GivenLemmas
 pub mod GivenListLemmas
+pub mod ChoiceLemmas
 pub mod EvaluatedLemmas
 mod DueOfTextLemmas
 mod OutputRows
@@ -15,6 +16,7 @@ pub mod DepthLemmas
 mod TermRows
 mod DueRows
 mod GivenRows
+mod ChoiceRows
 pub mod ReadsLemmas
 mod PlacedLemmas
 mod RefusedItemLemmas

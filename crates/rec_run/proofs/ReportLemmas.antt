@@ -17,9 +17,12 @@ use Rattle.rec_sorts.specs.Evaluation.{Eval, term_of}
 use Rattle.rec_engine.specs.Engine.{IsGiven, IsOutcome, eval_tree}
 use Rattle.rec_engine.specs.declared.engine.Outcome.{Outcome}
 use Rattle.rec_engine.specs.declared.engine.Outcome.TheVariants.{Value, Limit}
+use Rattle.rec_run.specs.Choice.{given_chosen, own_chosen}
 use Rattle.rec_run.specs.GivenTerms.{item_at}
 use Rattle.rec_run.specs.Output.{Task}
+use Rattle.rec_run.specs.declared.options.TermChoice.{TermChoice}
 use Rattle.rec_run.specs.Reading.{term_at}
+use Rattle.rec_run.proofs.ChoiceLemmas.{chosen-alone, chosen-parts, own}
 use Rattle.rec_run.proofs.EvaluatedLemmas.{bare_tree, eval-tree, given_item}
 use Rattle.rec_run.specs.Reports.{Says, given_report, outcome_report, report_of, value_report}
 use Rattle.rec_run.specs.Output.{given_task}
@@ -77,14 +80,19 @@ module _ (says : Says) (source : List ℕ) (y : Spec) (n : ℕ) where
   abbrev own-of : Term → List ℕ
   own-of t = value_report says source y n (record { term = t; notes = none })
 
-  tasks-told : (us : List Tree) → report_of says source y us n ≡ flat_map own-of y.terms ++ given_report says source y n us
-  tasks-told us =
-      flat_map-append (value_report says source y n) (map (λ (t : Term). record { term = t; notes = none }) y.terms) (map given_task us)
-      ∙ ap₂ (λ a b. a ++ b) (flat_map-map (value_report says source y n) (λ (t : Term). record { term = t; notes = none }) y.terms)
-      (flat_map-map (value_report says source y n) given_task us)
+  tasks-told : (ts : List Term) (us : List Tree)
+      → flat_map (value_report says source y n) (map own ts ++ map given_task us) ≡ flat_map own-of ts ++ given_report says source y n us
+  tasks-told ts us =
+      flat_map-append (value_report says source y n) (map own ts) (map given_task us)
+      ∙ ap₂ (λ a b. a ++ b) (flat_map-map (value_report says source y n) own ts) (flat_map-map (value_report says source y n) given_task us)
 
-  pub report-own : report_of says source y [] n ≡ flat_map (λ (t : Term). value_report says source y n (record { term = t; notes = none })) y.terms
-  report-own = tasks-told [] ∙ append-nil (flat_map own-of y.terms)
+  pub report-own : (terms : TermChoice) → report_of terms says source y [] n ≡ flat_map own-of (own_chosen terms y.terms)
+  report-own terms = ap (flat_map (value_report says source y n)) (chosen-alone terms y) ∙ tasks-told (own_chosen terms y.terms) []
+      ∙ append-nil (flat_map own-of (own_chosen terms y.terms))
 
-  pub report-both : (us : List Tree) → report_of says source y us n ≡ report_of says source y [] n ++ given_report says source y n us
-  report-both us = tasks-told us ∙ ap (λ z. z ++ given_report says source y n us) (sym report-own)
+  pub report-both : (terms : TermChoice) (us : List Tree)
+      → report_of terms says source y us n ≡ report_of terms says source y [] n ++ given_report says source y n (given_chosen terms (length y.terms) us)
+  report-both terms us =
+      let vs = given_chosen terms (length y.terms) us in
+      ap (flat_map (value_report says source y n)) (chosen-parts terms y us) ∙ tasks-told (own_chosen terms y.terms) vs
+      ∙ ap (λ z. z ++ given_report says source y n vs) (sym (report-own terms))

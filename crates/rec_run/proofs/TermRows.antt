@@ -3,13 +3,14 @@ use Rattle.std.proofs.Common.{refl}
 use Rattle.std.specs.Prelude.{ℕ, List, [], ◌∷◌, ◌++◌, decimal, codes, ◌≡◌, true, false, Some, None, ℤ}
 use Rattle.rec_syntax.specs.Tokens.{Word}
 use Rattle.rec_syntax.specs.Syntax.{Terms, Apply, Spec}
-use Rattle.rx_term.specs.Tree.{Int, Appl, Items, Hole, none, more}
+use Rattle.rx_term.specs.Tree.{Tree, Int, Appl, Items, Hole, none, more}
 use Rattle.rec_sorts.specs.TermRules.{broken_by_terms}
 use Rattle.std.specs.Fmt.{digits}
 use Rattle.rec_sorts.specs.Evaluation.{Eval}
-use Rattle.rec_run.specs.Output.{bare, each_line, shown_by}
-use Rattle.rec_run.specs.declared.options.LimitLines.TheVariants.{Annotated}
-use Rattle.rec_run.specs.declared.options.ValueForm.TheVariants.{Plain, Within}
+use Rattle.rec_run.specs.Output.{bare, each_line, shown_by, value_line}
+use Rattle.rec_run.specs.declared.options.LimitLines.TheVariants.{Annotated, Bare}
+use Rattle.rec_run.specs.declared.options.TermChoice.TheVariants.{All}
+use Rattle.rec_run.specs.declared.options.ValueForm.TheVariants.{Plain, Within, Table}
 
 -- a word at a place
 abbrev w : ℕ → List ℕ → Word
@@ -278,3 +279,15 @@ second_sort = refl
 first_sort : broken_by_terms two
     (Items (more (Appl (codes "p") false (more (Appl (codes "b") false none none) (more (Appl (codes "b") false none none) none)) none) none) none) ≡ Some 6
 first_sort = refl
+
+-- the table of a value, with its steps and its cells
+abbrev leaf : Tree
+leaf = Appl (codes "leaf") false none none
+
+abbrev node : Tree → Tree
+node t = Appl (codes "node") false (more t (more t none)) none
+
+tabled : value_line (record { count = true; sizes = true; limits = Bare; form = Table; terms = All }) none 3 (node (node leaf))
+    ≡ codes "[node(leaf,leaf),node(<0>,<0>)]\t3\t8"
+unfolding digits
+tabled = refl

@@ -1,7 +1,7 @@
 -- What is found for a run's texts, from what the texts came to: what is told of their values, and
--- how many limit lines they have.
-use Rattle.std.proofs.Common.{refl, sym, ap, subst}
-use Rattle.std.specs.Prelude.{ℕ, ◌≡◌, ◌++◌, List, [], Option, Some, None, IfOk, IfSome, OnOk, Result, Ok, Err}
+-- how many lines and limit lines they have.
+use Rattle.std.proofs.Common.{refl, sym, ap, subst, ◌∙◌}
+use Rattle.std.specs.Prelude.{ℕ, ◌≡◌, ◌++◌, List, [], Option, Some, None, IfOk, IfSome, OnOk, Result, Ok, Err, length}
 use Rattle.rx_term.specs.Store.{Store}
 use Rattle.rx_term.specs.Tree.{Tree}
 use Rattle.rx_term.specs.declared.Term.{Term as Reference}
@@ -10,12 +10,15 @@ use Rattle.rec_sorts.specs.SpecRules.{Verdict, Long, Grammar, Breaks, Good}
 use Rattle.rx_run.specs.declared.refusal.Reading.{Reading}
 use Rattle.rx_run.specs.declared.refusal.Reading.TheVariants as reading
 use Rattle.rx_run.specs.declared.refusal.Refusal.{Refusal}
-use Rattle.rec_run.specs.GivenTerms.{IsJobAfter, IsJobRead, IsTermsRead, given_by, job_alone_of, job_of, refused_terms}
-use Rattle.rec_run.specs.Output.{TermsVerdict, TooLong, Outside, BreaksTerms, GoodTerms, limit_lines}
+use Rattle.rec_run.specs.GivenTerms.{IsJobAfter, IsJobRead, IsTermsRead, given_by, job_of, refused_terms}
+use Rattle.rec_run.specs.Output.{TermsVerdict, TooLong, Outside, BreaksTerms, GoodTerms, chosen, limit_lines}
 use Rattle.rec_run.specs.Reading.{IsSpecReading, KeepsText, refused_spec}
-use Rattle.rec_run.specs.Reports.{HasLimitLines, IsFoundAfter, IsFoundFor, Says, Tells, found_for_terms, job_found, job_limits, job_report, report_of}
+use Rattle.rec_run.specs.Depth.{counts_in}
+use Rattle.rec_run.specs.Reports.{HasLimitLines, HasLines, IsFoundAfter, IsFoundFor, Says, Tells, found_for_terms, job_counts, job_found, job_report, report_of}
 use Rattle.rec_run.specs.Run.{Texts}
+use Rattle.rec_run.specs.declared.options.TermChoice.{TermChoice}
 use Rattle.rec_run.specs.declared.options.ValueForm.{ValueForm}
+use Rattle.rec_run.specs.declared.spec.counts.Counts.{Counts}
 use Rattle.rec_run.specs.declared.spec.reading.Job.{Job}
 use Rattle.rec_run.specs.declared.spec.due.RunReport.{RunReport}
 
@@ -55,36 +58,58 @@ module _ {A : Type 0} (none : A) (of : Spec → List Tree → A) where
   found-read w texts r (first, (v, h, is), kept, after) = (v, h, found-after w texts.terms first r v is after)
 
 -- a good specification keeps its text, so what is told of the values by the job is told by the text
-kept-source : (says : Says) (w : Store) (n : ℕ) (source : List ℕ) (given : Option (List ℕ)) (first : Reading Sourced) (r : Reading Job)
-    → KeepsText source first → IsJobAfter w given first r → job_report says w n r ≡ job_found [] (λ y ts. report_of says source y ts n) w r
-kept-source says w n source given (reading.Refused q) r kept h =
-    subst (λ z. job_report says w n z ≡ job_found [] (λ y ts. report_of says source y ts n) w z) (sym h) refl
-kept-source says w n source None (reading.Good checked) r kept h =
-    subst (λ z. job_report says w n z ≡ job_found [] (λ y ts. report_of says source y ts n) w z) (sym h)
-    (ap (λ s. report_of says s checked.spec [] n) kept)
-kept-source says w n source (Some bytes) (reading.Good checked) r kept (t, k, e) =
-    subst (λ z. job_report says w n z ≡ job_found [] (λ y ts. report_of says source y ts n) w z) (sym e) (by t)
+kept-source : (terms : TermChoice) (says : Says) (w : Store) (n : ℕ) (source : List ℕ) (given : Option (List ℕ)) (first : Reading Sourced) (r : Reading Job)
+    → KeepsText source first → IsJobAfter w given first r → job_report terms says w n r ≡ job_found [] (λ y ts. report_of terms says source y ts n) w r
+kept-source terms says w n source given (reading.Refused q) r kept h =
+    subst (λ z. job_report terms says w n z ≡ job_found [] (λ y ts. report_of terms says source y ts n) w z) (sym h) refl
+kept-source terms says w n source None (reading.Good checked) r kept h =
+    subst (λ z. job_report terms says w n z ≡ job_found [] (λ y ts. report_of terms says source y ts n) w z) (sym h)
+    (ap (λ s. report_of terms says s checked.spec [] n) kept)
+kept-source terms says w n source (Some bytes) (reading.Good checked) r kept (t, k, e) =
+    subst (λ z. job_report terms says w n z ≡ job_found [] (λ y ts. report_of terms says source y ts n) w z) (sym e) (by t)
   where
-    by : (t : Reading Reference) → job_report says w n (job_of checked t) ≡ job_found [] (λ y ts. report_of says source y ts n) w (job_of checked t)
+    by : (t : Reading Reference) → job_report terms says w n (job_of checked t) ≡ job_found [] (λ y ts. report_of terms says source y ts n) w (job_of checked t)
     by (reading.Refused q) = refl
-    by (reading.Good list) = ap (λ s. report_of says s checked.spec (given_by w (Some list)) n) kept
+    by (reading.Good list) = ap (λ s. report_of terms says s checked.spec (given_by w (Some list)) n) kept
 
 -- a run tells it
-pub tells-by : {A E : Type 0} (says : Says) (result : Result A E) (w : Store) (n : ℕ) (texts : Option Texts) (r : Reading Job) (old new : List ℕ)
-    → IfSome texts (λ t. IsJobRead w t r) → OnOk result (new ≡ old ++ job_report says w n r) → IfOk result (λ a. Tells says n texts old new)
-tells-by says (Err e) w n texts r old new h k = tt
-tells-by says (Ok a) w n None r old new h k = tt
-tells-by says (Ok a) w n (Some t) r old new h k = (
-  job_found [] (λ y ts. report_of says t.spec y ts n) w r,
-  found-read [] (λ y ts. report_of says t.spec y ts n) w t r h,
-  subst (λ told. new ≡ old ++ told) (kept-source says w n t.spec t.terms h.0 r h.2 h.3) k,
+pub tells-by : {A E : Type 0} (terms : TermChoice) (says : Says) (result : Result A E) (w : Store) (n : ℕ) (texts : Option Texts) (r : Reading Job) (old new : List ℕ)
+    → IfSome texts (λ t. IsJobRead w t r) → OnOk result (new ≡ old ++ job_report terms says w n r) → IfOk result (λ a. Tells terms says n texts old new)
+tells-by terms says (Err e) w n texts r old new h k = tt
+tells-by terms says (Ok a) w n None r old new h k = tt
+tells-by terms says (Ok a) w n (Some t) r old new h k = (
+  job_found [] (λ y ts. report_of terms says t.spec y ts n) w r,
+  found-read [] (λ y ts. report_of terms says t.spec y ts n) w t r h,
+  subst (λ told. new ≡ old ++ told) (kept-source terms says w n t.spec t.terms h.0 r h.2 h.3) k,
 )
 
--- and so many of its lines are limit lines
-pub limits-by : {E : Type 0} (result : Result RunReport E) (w : Store) (form : ValueForm) (n : ℕ) (texts : Option Texts) (r : Reading Job)
-    → IfSome texts (λ t. IsJobRead w t r) → IfOk result (λ report. report.limit_lines ≡ job_limits w form n r)
-    → IfOk result (λ report. HasLimitLines form n texts report.limit_lines)
-limits-by (Err e) w form n texts r h k = tt
-limits-by (Ok report) w form n None r h k = tt
-limits-by (Ok report) w form n (Some t) r h k =
-    subst (IsFoundFor 0 (λ y ts. limit_lines y ts form n) t) (sym k) (found-read 0 (λ y ts. limit_lines y ts form n) w t r h)
+-- both numbers of lines are found apart
+lines-found : (w : Store) (terms : TermChoice) (form : ValueForm) (n : ℕ) (r : Reading Job)
+    → (job_counts w terms form n r).lines ≡ job_found 0 (λ y ts. length (chosen terms y ts)) w r
+lines-found w terms form n (reading.Refused r) = refl
+lines-found w terms form n (reading.Good job) = refl
+
+limits-found : (w : Store) (terms : TermChoice) (form : ValueForm) (n : ℕ) (r : Reading Job)
+    → (job_counts w terms form n r).limit_lines ≡ job_found 0 (λ y ts. limit_lines terms y ts form n) w r
+limits-found w terms form n (reading.Refused r) = refl
+limits-found w terms form n (reading.Good job) = refl
+
+-- it has so many lines
+pub lines-by : {E : Type 0} (result : Result RunReport E) (w : Store) (terms : TermChoice) (form : ValueForm) (n : ℕ) (texts : Option Texts)
+    (r : Reading Job) → IfSome texts (λ t. IsJobRead w t r) → IfOk result (λ report. counts_in report ≡ job_counts w terms form n r)
+    → IfOk result (λ report. HasLines terms texts report.lines)
+lines-by (Err e) w terms form n texts r h k = tt
+lines-by (Ok report) w terms form n None r h k = tt
+lines-by (Ok report) w terms form n (Some t) r h k =
+    subst (IsFoundFor 0 (λ y ts. length (chosen terms y ts)) t) (sym (ap (λ (c : Counts). c.lines) k ∙ lines-found w terms form n r))
+    (found-read 0 (λ y ts. length (chosen terms y ts)) w t r h)
+
+-- and so many of them are limit lines
+pub limits-by : {E : Type 0} (result : Result RunReport E) (w : Store) (terms : TermChoice) (form : ValueForm) (n : ℕ) (texts : Option Texts)
+    (r : Reading Job) → IfSome texts (λ t. IsJobRead w t r) → IfOk result (λ report. counts_in report ≡ job_counts w terms form n r)
+    → IfOk result (λ report. HasLimitLines terms form n texts report.limit_lines)
+limits-by (Err e) w terms form n texts r h k = tt
+limits-by (Ok report) w terms form n None r h k = tt
+limits-by (Ok report) w terms form n (Some t) r h k =
+    subst (IsFoundFor 0 (λ y ts. limit_lines terms y ts form n) t) (sym (ap (λ (c : Counts). c.limit_lines) k ∙ limits-found w terms form n r))
+    (found-read 0 (λ y ts. limit_lines terms y ts form n) w t r h)

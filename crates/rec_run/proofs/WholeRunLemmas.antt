@@ -1,5 +1,5 @@
 -- From what the texts of a run came to to what is due.
-use Rattle.std.proofs.Common.{ap, ◌≡◌, ℕ, ◌+◌, ◌≤◌, ◌∙◌, List, Option, Some, None, IfSome, length, take, refl, subst, sym, arith}
+use Rattle.std.proofs.Common.{ap, ◌≡◌, ℕ, ◌+◌, ◌≤◌, ◌∙◌, List, Option, Some, None, IfSome, length, take, refl, subst, arith}
 use Rattle.std.proofs.lemmas.List.{length-take}
 use Rattle.rec_syntax.specs.Syntax.{Sourced}
 use Rattle.rec_sorts.specs.SpecRules as verdict
@@ -7,10 +7,10 @@ use Rattle.rec_sorts.specs.SpecRules.{Verdict, SpecVerdict}
 use Rattle.rx_term.specs.Store.{Store}
 use Rattle.rx_run.specs.Due.{Due}
 use Rattle.rec_run.specs.Output.{Shown, IsDueAfter, due_of_spec}
-use Rattle.rec_run.specs.GivenTerms.{IsReadFrom, IsReady, job_alone_of, run_due}
+use Rattle.rec_run.specs.GivenTerms.{IsReadFrom, run_due}
 use Rattle.rec_run.specs.Reading.{IsSpecRead, KeepsText, refused_spec}
 use Rattle.rx_run.specs.Refusals.{refusal_due}
-use Rattle.rec_run.specs.Run.{IsDueFor, Texts, both_texts}
+use Rattle.rec_run.specs.Run.{IsDueFor, Texts}
 use Rattle.rx_run.specs.declared.refusal.Reading.{Reading}
 use Rattle.rx_run.specs.declared.refusal.Reading.TheVariants.{Refused, Good}
 use Rattle.rx_run.specs.declared.refusal.Refusal.{Refusal}

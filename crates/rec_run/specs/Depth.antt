@@ -9,6 +9,7 @@ use Rattle.rx_run.specs.declared.ending.Place.{Place}
 use Rattle.rx_run.specs.declared.ending.RunFault.{RunFault}
 use Rattle.rx_run.specs.declared.ending.RunFault.TheVariants as run
 use Rattle.rx_run.specs.declared.refusal.Ending.{Ending}
+use Rattle.rec_run.specs.declared.spec.counts.Counts.{Counts}
 use Rattle.rec_run.specs.declared.spec.due.RunReport.{RunReport}
 
 -- RunDeepOnly waiting depth r: the error `Deep` implies that a call-depth limit is given, and that
@@ -38,10 +39,19 @@ abbrev pub place_told : Result RunReport RunFault → Option Place
 place_told (Ok report) = place_of report.ending
 place_told (Err f) = None
 
+-- report_with ending counts: the report of a run with these counts
+abbrev pub report_with : Ending → Counts → RunReport
+report_with ending counts =
+    record { ending = ending; lines = counts.lines; limit_lines = counts.limit_lines }
+
+-- counts_in report: the counts of a report
+abbrev pub counts_in : RunReport → Counts
+counts_in report = record { lines = report.lines; limit_lines = report.limit_lines }
+
 -- EndsBehind written ending old new r: if `written` is an error, `r` is this error; otherwise the
 -- output was flushed, and `r` is the report or the error `Write`
-abbrev pub EndsBehind : Result ℕ RunFault → Ending → Option (List ℕ) → Option (List ℕ)
+abbrev pub EndsBehind : Result Counts RunFault → Ending → Option (List ℕ) → Option (List ℕ)
     → Result RunReport RunFault → Type 0
-EndsBehind (Ok limits) ending old new r = Keeps old new
-    × ((r ≡ Ok (record { ending = ending; limit_lines = limits })) ⊎ (r ≡ Err run.Write))
+EndsBehind (Ok counts) ending old new r = Keeps old new
+    × ((r ≡ Ok (report_with ending counts)) ⊎ (r ≡ Err run.Write))
 EndsBehind (Err f) ending old new r = (r ≡ Err f) × (new ≡ old)

@@ -5,7 +5,6 @@ use Rattle.rx_term.specs.Steps.{Keeps}
 use Rattle.rx_term.specs.Store.{Store, tree_at}
 use Rattle.rx_term.specs.Tree.{Trees, annotations, none}
 use Rattle.rx_term.specs.declared.Term.{Term as Reference}
-use Rattle.rx_text.specs.Canon.{canon}
 use Rattle.rx_text.specs.declared.output.Output.{Output}
 use Rattle.rec_syntax.specs.Syntax.{Spec}
 use Rattle.rec_memo.specs.Pairs.{Pairs}
@@ -16,10 +15,9 @@ use Rattle.rec_engine.specs.declared.engine.Options.{Options}
 use Rattle.rec_engine.specs.declared.engine.Outcome.{Outcome}
 use Rattle.rec_engine.specs.declared.engine.Outcome.TheVariants.{Value, Limit}
 use Rattle.rec_run.specs.GivenTerms.{HoldsTerms, item_at}
-use Rattle.rx_run.specs.Due.{steps_text}
 use Rattle.rx_run.specs.Streams.{ReportsWrite, is_read, returns}
 use Rattle.rx_run.specs.declared.ending.RunFault.{RunFault}
-use Rattle.rec_run.specs.Output.{Printed, is_longer, notes_text, printed, value_text}
+use Rattle.rec_run.specs.Output.{Printed, figures, is_longer, notes_text, printed, shown_of, value_text}
 use Rattle.rec_run.specs.declared.options.LimitLines.{LimitLines}
 use Rattle.rec_run.specs.declared.options.LimitLines.TheVariants.{Bare, Annotated}
 use Rattle.rec_run.specs.declared.options.RunOptions.{RunOptions}
@@ -29,16 +27,20 @@ use Rattle.rx_run.specs.declared.ending.RunFault.TheVariants as run
 
 -- value_of form w r: the value `r`, in the form of values
 abbrev pub value_of : ValueForm → Store → Reference → Printed
-value_of form w r = printed form (canon (item_at w r))
+value_of form w r = printed form (item_at w r)
 
--- unsaid steps p: the line of a value without the annotations of a limit line
+-- unsaid numbers p: the line of a value without the annotations of a limit line
 abbrev pub unsaid : List ℕ → Printed → List ℕ
-unsaid steps p = value_text Bare none steps p
+unsaid numbers p = value_text Bare none numbers p
+
+-- figures_of s w r steps: the text after the value `r`
+abbrev pub figures_of : RunSettings → Store → Reference → ℕ → List ℕ
+figures_of s w r steps = figures (shown_of s) steps (item_at w r)
 
 -- outcome_text s w o: the printed result of an evaluation in the form that the settings select,
 -- without the annotations of a limit line
 abbrev pub outcome_text : RunSettings → Store → Outcome → List ℕ
-outcome_text s w (Value r steps) = unsaid (steps_text s.options.count steps) (value_of s.form w r)
+outcome_text s w (Value r steps) = unsaid (figures_of s w r steps) (value_of s.form w r)
 outcome_text s w Limit = codes "!limit " ++ decimal s.options.steps
 
 -- is_limit_line form w o: the line of the result `o` is a limit line

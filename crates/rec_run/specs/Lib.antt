@@ -1,3 +1,4 @@
+pub mod Choice
 pub mod Depth
 pub mod EvaluatedLines
 pub mod GivenTerms

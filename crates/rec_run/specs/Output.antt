@@ -1,11 +1,14 @@
 -- The specified output of a run: its lines or its error line, and the location of the error.
-use Rattle.std.specs.Prelude.{ℕ, ◌-◌, ◌≡◌, ◌<◌, length, Option, Some, None, Bool, List, [], ◌++◌}
-use Rattle.std.specs.Prelude.{codes, decimal, false, if◌then◌else◌, map, flat_map, nat_le, true}
+use Rattle.std.specs.Prelude.{ℕ, zero, suc, ◌-◌, ◌≡◌, ◌<◌, length, Option, Some, None, Bool, List}
+use Rattle.std.specs.Prelude.{[], ◌++◌, codes, decimal, drop, false, if◌then◌else◌, map, flat_map}
+use Rattle.std.specs.Prelude.{nat_le, take, true}
 use Rattle.std.specs.List.{count_by}
+use Rattle.rx_term.specs.Parts.{part_count}
 use Rattle.rx_term.specs.Tree.{Tree, Trees, none, annotated, annotations}
 use Rattle.rx_text.specs.Grammar.{Spells}
 use Rattle.rx_text.specs.Place.{IsFaultPlace}
 use Rattle.rx_text.specs.Canon.{canon, canon_all, enclosed}
+use Rattle.rx_table.specs.Table.{table}
 use Rattle.rec_syntax.specs.Syntax.{Term, Spec}
 use Rattle.rec_sorts.specs.TermRules.{broken_by_terms, elements}
 use Rattle.rec_sorts.specs.SpecRules.{Verdict, Long, Grammar, Breaks, Good, SpecVerdict, Fits}
@@ -16,32 +19,54 @@ use Rattle.rx_run.specs.declared.ending.Named.TheVariants as named
 use Rattle.rec_run.specs.declared.options.LimitLines.{LimitLines}
 use Rattle.rec_run.specs.declared.options.LimitLines.TheVariants.{Bare, Annotated}
 use Rattle.rec_run.specs.declared.options.RunSettings.{RunSettings}
+use Rattle.rec_run.specs.declared.options.TermChoice.{TermChoice}
+use Rattle.rec_run.specs.declared.options.TermChoice.TheVariants.{All, Input, Nth}
 use Rattle.rec_run.specs.declared.options.ValueForm.{ValueForm}
-use Rattle.rec_run.specs.declared.options.ValueForm.TheVariants.{Plain, Within}
+use Rattle.rec_run.specs.declared.options.ValueForm.TheVariants.{Plain, Within, Table}
+use Rattle.rec_run.specs.declared.spec.counts.Counts.{Counts}
 
 -- Task: a term to be evaluated, and the annotations that its value gets
 pub record Task : Type 0 where
   pub term : Term
   pub notes : Trees
 
--- Shown: the form of lines: whether the number of steps follows a value, the form of limit lines
--- and the form of values
+-- Shown: the form of lines: whether the numbers of steps and of cells follow a value, the form of
+-- limit lines and the form of values; and the terms that have a line
 pub record Shown : Type 0 where
   pub count : Bool
+  pub sizes : Bool
   pub limits : LimitLines
   pub form : ValueForm
+  pub terms : TermChoice
 
--- shown_by count limits form: limit lines of the form `limits`, and values of the form `form`
+-- shown_by count limits form: limit lines of the form `limits` and values of the form `form`
+-- without their numbers of cells, for all terms
 abbrev pub shown_by : Bool → LimitLines → ValueForm → Shown
-shown_by count limits form = record { count = count; limits = limits; form = form }
+shown_by count limits form = record {
+  count = count;
+  sizes = false;
+  limits = limits;
+  form = form;
+  terms = All;
+}
 
--- bare count: limit lines without annotations, and values of any length
+-- bare count: limit lines without annotations and values of any length, for all terms
 abbrev pub bare : Bool → Shown
-bare count = record { count = count; limits = Bare; form = Plain }
+bare count = shown_by count Bare Plain
 
--- shown_of s: the form of lines that the settings select
+-- shown_of s: the form of lines and the terms that the settings select
 abbrev pub shown_of : RunSettings → Shown
-shown_of s = shown_by s.options.count s.limits s.form
+shown_of s = record {
+  count = s.options.count;
+  sizes = s.sizes;
+  limits = s.limits;
+  form = s.form;
+  terms = s.terms;
+}
+
+-- own_shown shown: the form of the lines of terms without annotations: limit lines have none
+abbrev pub own_shown : Shown → Shown
+own_shown shown = record shown { limits = Bare; terms = All }
 
 -- notes_text notes: annotations in braces; empty if there are none
 abbrev pub notes_text : Trees → List ℕ
@@ -64,28 +89,45 @@ pub data Printed : Type 0 where
   Whole : List ℕ → Printed
   Longer : (most : ℕ) → Printed
 
--- printed form text: the value with this text, in the form of values
-abbrev pub printed : ValueForm → List ℕ → Printed
-printed Plain text = Whole text
-printed (Within most) text = if nat_le (length text) most then Whole text else Longer most
+-- printed form u: the value `u` in the form of values: its text, its text within a bound, or the
+-- text of its table
+abbrev pub printed : ValueForm → Tree → Printed
+printed Plain u = Whole (canon u)
+printed (Within most) u = if nat_le (length (canon u)) most then Whole (canon u) else Longer most
+printed Table u = Whole (canon (table u))
 
 -- is_longer p: the value has more bytes than the form allows
 abbrev pub is_longer : Printed → Bool
 is_longer (Whole text) = false
 is_longer (Longer most) = true
 
--- value_text limits notes steps p: the line of a value, without the line end: its text and the text
--- `steps`, or `!bytes`
+-- sized sizes u text: a text and, if `sizes` is true, a tab and the number of cells of the value `u`
+abbrev pub sized : Bool → Tree → List ℕ → List ℕ
+sized false u text = text
+sized true u text = text ++ codes "\t" ++ decimal (part_count u)
+
+-- figures shown steps u: the text after the value `u`: its number of steps and its number of cells,
+-- each if it is printed
+abbrev pub figures : Shown → ℕ → Tree → List ℕ
+figures shown steps u = sized shown.sizes u (steps_text shown.count steps)
+
+-- value_text limits notes numbers p: the line of a value, without the line end: its text and the text
+-- `numbers`, or `!bytes`
 abbrev pub value_text : LimitLines → Trees → List ℕ → Printed → List ℕ
-value_text limits notes steps (Whole text) = text ++ steps
-value_text limits notes steps (Longer most) = bytes_text limits most notes
+value_text limits notes numbers (Whole text) = text ++ numbers
+value_text limits notes numbers (Longer most) = bytes_text limits most notes
+
+-- value_line shown notes steps u: the line of the value `u` after so many steps, without the line end
+abbrev pub value_line : Shown → Trees → ℕ → Tree → List ℕ
+value_line shown notes steps u =
+    value_text shown.limits notes (figures shown steps u) (printed shown.form u)
 
 -- line y shown n task: the line of a term: its normal form with the annotations of the term, or a
 -- limit line
 abbrev pub line : Spec → Shown → ℕ → Task → List ℕ
 line y shown n task = elim (Eval y n [] task.term) [
-  | Done v left ↦ value_text shown.limits task.notes (steps_text shown.count (n - left))
-      (printed shown.form (canon (annotated v task.notes))) ++ codes "\n"
+  | Done v left ↦
+      value_line shown task.notes (n - left) (annotated v task.notes) ++ codes "\n"
   | Over ↦ limit_text shown.limits n task.notes ++ codes "\n"
 ]
 
@@ -97,11 +139,22 @@ given_task t = record { term = term_of t; notes = annotations t }
 abbrev pub tasks : Spec → List Tree → List Task
 tasks y given = map (λ t. record { term = t; notes = none }) y.terms ++ map given_task given
 
--- each_line y given shown n: the lines of all terms, each with the whole step limit
-abbrev pub each_line : Spec → List Tree → Shown → ℕ → List (List ℕ)
-each_line y given shown n = map (line y shown n) (tasks y given)
+-- nth k xs: the item with the number `k`, counted from 1, alone; none if there are fewer
+abbrev pub nth : {X : Type 0} → ℕ → List X → List X
+nth zero xs = []
+nth (suc i) xs = take 1 (drop i xs)
 
--- lines y given shown n: the lines of all terms, one after another
+-- chosen terms y given: the tasks that have a line
+abbrev pub chosen : TermChoice → Spec → List Tree → List Task
+chosen All y given = tasks y given
+chosen Input y given = map given_task given
+chosen (Nth k) y given = nth k (tasks y given)
+
+-- each_line y given shown n: the lines of the chosen terms, each with the whole step limit
+abbrev pub each_line : Spec → List Tree → Shown → ℕ → List (List ℕ)
+each_line y given shown n = map (line y shown n) (chosen shown.terms y given)
+
+-- lines y given shown n: the lines of the chosen terms, one after another
 abbrev pub lines : Spec → List Tree → Shown → ℕ → List ℕ
 lines y given shown n = flat_map (λ l. l) (each_line y given shown n)
 
@@ -109,13 +162,20 @@ lines y given shown n = flat_map (λ l. l) (each_line y given shown n)
 -- since the step limit is too low or the value is longer than the form allows
 abbrev pub is_limited : Spec → ValueForm → ℕ → Task → Bool
 is_limited y form n task = elim (Eval y n [] task.term) [
-  | Done v left ↦ is_longer (printed form (canon (annotated v task.notes)))
+  | Done v left ↦ is_longer (printed form (annotated v task.notes))
   | Over ↦ true
 ]
 
--- limit_lines y given form n: the number of limit lines of all terms
-abbrev pub limit_lines : Spec → List Tree → ValueForm → ℕ → ℕ
-limit_lines y given form n = count_by (is_limited y form n) (tasks y given)
+-- limit_lines terms y given form n: the number of limit lines of the chosen terms
+abbrev pub limit_lines : TermChoice → Spec → List Tree → ValueForm → ℕ → ℕ
+limit_lines terms y given form n = count_by (is_limited y form n) (chosen terms y given)
+
+-- counts_of terms y given form n: the numbers of lines and of limit lines of the chosen terms
+abbrev pub counts_of : TermChoice → Spec → List Tree → ValueForm → ℕ → Counts
+counts_of terms y given form n = record {
+  lines = length (chosen terms y given);
+  limit_lines = limit_lines terms y given form n;
+}
 
 -- given_limits y form n us: the number of limit lines of input terms
 abbrev pub given_limits : Spec → ValueForm → ℕ → List Tree → ℕ

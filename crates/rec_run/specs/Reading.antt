@@ -1,15 +1,13 @@
 -- The result of reading the text of a specification, and the lines of its terms.
 use Rattle.std.specs.Prelude.{ℕ, ◌≡◌, ◌-◌, List, [], Option, Some, None, get_or}
 use Rattle.rx_term.specs.Tree.{Tree, Trees, annotated, none}
-use Rattle.rx_text.specs.Canon.{canon}
 use Rattle.rec_syntax.specs.Syntax.{Term, Apply, Sourced, Spec, nameless}
 use Rattle.rec_syntax.specs.Syntax as syntax
 use Rattle.rec_sorts.specs.SpecRules as verdict
 use Rattle.rec_sorts.specs.SpecRules.{SpecVerdict, Verdict}
 use Rattle.rec_sorts.specs.Evaluation as evaluation
 use Rattle.rec_sorts.specs.Evaluation.{Eval}
-use Rattle.rx_run.specs.Due.{steps_text}
-use Rattle.rec_run.specs.Output.{Shown, Task, limit_text, printed, value_text}
+use Rattle.rec_run.specs.Output.{Shown, Task, limit_text, value_line}
 use Rattle.rx_run.specs.declared.ending.Source.TheVariants as source
 use Rattle.rx_run.specs.declared.refusal.Reading.{Reading}
 use Rattle.rx_run.specs.declared.refusal.Reading.TheVariants as reading
@@ -46,8 +44,8 @@ KeepsText text (reading.Good checked) = checked.source ≡ text
 -- evaluation_text notes shown n o: the line of an evaluation with `n` steps and annotations,
 -- without the line end
 abbrev pub evaluation_text : Trees → Shown → ℕ → evaluation.Outcome Tree → List ℕ
-evaluation_text notes shown n (evaluation.Done v left) = value_text shown.limits notes
-    (steps_text shown.count (n - left)) (printed shown.form (canon (annotated v notes)))
+evaluation_text notes shown n (evaluation.Done v left) =
+    value_line shown notes (n - left) (annotated v notes)
 evaluation_text notes shown n evaluation.Over = limit_text shown.limits n notes
 
 -- line_text y shown n t: the line of a term without annotations, without the line end

@@ -1,5 +1,5 @@
--- Reports on the values of a run, and the number of its limit lines.
-use Rattle.std.specs.Prelude.{ℕ, ◌≡◌, List, [], ◌++◌, Option, Some, IfSome, flat_map}
+-- Reports on the values of a run, and the numbers of its lines and of its limit lines.
+use Rattle.std.specs.Prelude.{ℕ, ◌≡◌, List, [], ◌++◌, Option, Some, IfSome, flat_map, length}
 use Rattle.rx_term.specs.Tree.{Tree, annotated}
 use Rattle.rx_term.specs.Store.{Store}
 use Rattle.rx_term.specs.Walks.{held_tree}
@@ -12,9 +12,11 @@ use Rattle.rx_run.specs.declared.refusal.Reading.{Reading}
 use Rattle.rx_run.specs.declared.refusal.Reading.TheVariants as reading
 use Rattle.rec_run.specs.GivenTerms.{given_by}
 use Rattle.rec_run.specs.Output.{Task, TermsVerdict, GoodTerms, IsTermsVerdict, given_task}
-use Rattle.rec_run.specs.Output.{limit_lines, tasks}
+use Rattle.rec_run.specs.Output.{chosen, counts_of, limit_lines}
 use Rattle.rec_run.specs.Run.{Texts}
+use Rattle.rec_run.specs.declared.options.TermChoice.{TermChoice}
 use Rattle.rec_run.specs.declared.options.ValueForm.{ValueForm}
+use Rattle.rec_run.specs.declared.spec.counts.Counts.{Counts}
 use Rattle.rec_run.specs.declared.spec.reading.Job.{Job}
 
 -- Says: the report on a value, by the text of its specification
@@ -29,10 +31,10 @@ value_report says source y n task = elim (Eval y n [] task.term) [
   | Over ↦ []
 ]
 
--- report_of says source y given n: the reports on the specification's terms, and then on input
--- terms
-abbrev pub report_of : Says → List ℕ → Spec → List Tree → ℕ → List ℕ
-report_of says source y given n = flat_map (value_report says source y n) (tasks y given)
+-- report_of terms says source y given n: the reports on the chosen terms
+abbrev pub report_of : TermChoice → Says → List ℕ → Spec → List Tree → ℕ → List ℕ
+report_of terms says source y given n =
+    flat_map (value_report says source y n) (chosen terms y given)
 
 -- given_report says source y n us: the reports on input terms
 abbrev pub given_report : Says → List ℕ → Spec → ℕ → List Tree → List ℕ
@@ -72,32 +74,44 @@ module _ {A : Type 0} (none : A) (of : Spec → List Tree → A) where
   job_found w (reading.Refused r) = none
   job_found w (reading.Good job) = of job.checked.spec (given_by w job.list)
 
--- IsToldFor says n texts told: `told` is the report on the values of both texts
-abbrev pub IsToldFor : Says → ℕ → Texts → List ℕ → Type 0
-IsToldFor says n texts told =
-    IsFoundFor [] (λ y ts. report_of says texts.spec y ts n) texts told
+-- IsToldFor terms says n texts told: `told` is the report on the values of the chosen terms of both
+-- texts
+abbrev pub IsToldFor : TermChoice → Says → ℕ → Texts → List ℕ → Type 0
+IsToldFor terms says n texts told =
+    IsFoundFor [] (λ y ts. report_of terms says texts.spec y ts n) texts told
 
--- Tells says n texts old new: `new` is `old`, followed by the report on the values of the texts, if
--- their readers describe them
-abbrev pub Tells : Says → ℕ → Option Texts → List ℕ → List ℕ → Type 0
-Tells says n texts old new =
-    IfSome texts (λ t. (told : List ℕ) × IsToldFor says n t told × (new ≡ old ++ told))
+-- Tells terms says n texts old new: `new` is `old`, followed by the report on the values of the
+-- chosen terms of the texts, if their readers describe them
+abbrev pub Tells : TermChoice → Says → ℕ → Option Texts → List ℕ → List ℕ → Type 0
+Tells terms says n texts old new =
+    IfSome texts (λ t. (told : List ℕ) × IsToldFor terms says n t told × (new ≡ old ++ told))
 
--- job_report says w n r: the report on the values of the texts that were read
-abbrev pub job_report : Says → Store → ℕ → Reading Job → List ℕ
-job_report says w n (reading.Refused r) = []
-job_report says w n (reading.Good job) =
-    report_of says job.checked.source job.checked.spec (given_by w job.list) n
+-- job_report terms says w n r: the report on the values of the chosen terms of the texts that were
+-- read
+abbrev pub job_report : TermChoice → Says → Store → ℕ → Reading Job → List ℕ
+job_report terms says w n (reading.Refused r) = []
+job_report terms says w n (reading.Good job) =
+    report_of terms says job.checked.source job.checked.spec (given_by w job.list) n
 
--- HasLimitLines form n texts count: `count` is the number of limit lines in the specified output, if
+-- HasLines terms texts count: `count` is the number of lines of terms in the specified output, if
 -- the readers describe the texts
-abbrev pub HasLimitLines : ValueForm → ℕ → Option Texts → ℕ → Type 0
-HasLimitLines form n texts count =
-    IfSome texts (λ t. IsFoundFor 0 (λ y ts. limit_lines y ts form n) t count)
+abbrev pub HasLines : TermChoice → Option Texts → ℕ → Type 0
+HasLines terms texts count =
+    IfSome texts (λ t. IsFoundFor 0 (λ y ts. length (chosen terms y ts)) t count)
 
--- job_limits w form n r: the number of limit lines for the texts that were read
-abbrev pub job_limits : Store → ValueForm → ℕ → Reading Job → ℕ
-job_limits w form n r = job_found 0 (λ y ts. limit_lines y ts form n) w r
+-- HasLimitLines terms form n texts count: `count` is the number of limit lines in the specified
+-- output, if the readers describe the texts
+abbrev pub HasLimitLines : TermChoice → ValueForm → ℕ → Option Texts → ℕ → Type 0
+HasLimitLines terms form n texts count =
+    IfSome texts (λ t. IsFoundFor 0 (λ y ts. limit_lines terms y ts form n) t count)
+
+-- no_lines: there are no lines
+abbrev pub no_lines : Counts
+no_lines = record { lines = 0; limit_lines = 0 }
+
+-- job_counts w terms form n r: the numbers of lines and of limit lines for the texts that were read
+abbrev pub job_counts : Store → TermChoice → ValueForm → ℕ → Reading Job → Counts
+job_counts w terms form n r = job_found no_lines (λ y ts. counts_of terms y ts form n) w r
 
 module _ {S : Type 0} (ready : S → List ℕ → Spec → Type 0) where
   -- IsReadyFor y s: a reporter is ready for values of the specification `y`, for some text of it

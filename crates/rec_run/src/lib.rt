@@ -1,9 +1,9 @@
 //! Runs of a specification: bytes of a specification and of input terms in, lines out.
 //!
-//! [`run_given`] reads a specification and, if there are some, input terms. It evaluates all terms
-//! and writes one line for each, or a single error line if an input is rejected. [`run`] and
-//! [`run_at`] are short forms without settings and observer. [`run_over`] runs over a store of the
-//! caller.
+//! [`run_given`] reads a specification and, if there are some, input terms. It evaluates all terms,
+//! or those that a [`TermChoice`] selects, and writes one line for each, or a single error line if
+//! an input is rejected. [`run`] and [`run_at`] are short forms without settings and observer.
+//! [`run_over`] runs over a store of the caller.
 //!
 //! ```text
 //! let options = RunOptions { steps: 50_000, cells, memo: 65_536, reclaim: 262_144, count: true };
@@ -19,8 +19,8 @@
 //! | a report with `Ending::Refused` | the error line, exactly |
 //! | a [`RunFault`] | a prefix of the specified output; `lines` counts its complete lines |
 //!
-//! **Invariants.** The specified output depends on the texts, the step limit and the form of lines
-//! only. Store capacity, memo table, collection interval and observer do not occur in its
+//! **Invariants.** The specified output depends on the texts, the step limit, the form of lines and
+//! the choice of terms only. Store capacity, memo table, collection interval and observer do not occur in its
 //! definition (`specs/Output.antt`). These statements hold for readers and writers that describe
 //! their bytes in contracts. A stream that has failed is not used again.
 //!
@@ -29,7 +29,9 @@
 //!
 //! **Cost.** Each text is read whole before anything is evaluated, up to 16,777,217 bytes. A value of
 //! the form [`ValueForm::Plain`] is written without a copy, whatever its length. One of the form
-//! [`ValueForm::Within`] is first printed to memory, up to one byte more than its bound.
+//! [`ValueForm::Within`] is first printed to memory, up to one byte more than its bound. The table of
+//! a value, and the number of its cells, take expected time in proportion to its cells, however long
+//! its text is.
 #![tactic(auto)]
 
 pub mod laws;
@@ -41,7 +43,7 @@ mod shorthand;
 mod spec;
 
 pub use observer::{Observer, Profiler, unobserved};
-pub use options::{LimitLines, RunOptions, RunSettings, ValueForm};
+pub use options::{LimitLines, RunOptions, RunSettings, TermChoice, ValueForm};
 pub use rec_engine::{RuleCount, Tally, Unwatched, Watch};
 pub use refused_items::refused_term;
 pub use reporter::Reporter;
@@ -50,6 +52,7 @@ pub use rx_run::{
     run_match_at, run_share, run_share_at,
 };
 pub use shorthand::{run, run_at};
+pub use spec::counts::Counts;
 pub use spec::due::{EndedWithin, RunReport, end_run, refuse};
 pub use spec::evaluated::engine_over;
 pub use spec::evaluation::evaluate_within;
@@ -58,3 +61,4 @@ pub use spec::input_terms::{InputTerms, NoTerms};
 pub use spec::lines::engine_fault;
 pub use spec::outcome::{is_limit, write_notes};
 pub use spec::reading::{Job, read_given_from, read_spec_text, read_spec_text_from};
+pub use spec::window::{Window, window_of};

@@ -40,6 +40,20 @@ pub enum ValueForm {
     /// The text of the value if it has at most this number of bytes, or else a limit line:
     /// `!bytes 100`.
     Within(u64),
+    /// The table of the value, of any length, with one element for each part that it shares.
+    Table,
+}
+
+/// The terms of a run that are evaluated and have a line.
+#[derive(Clone, Copy, Debug, Drop, PartialEq, Eq)]
+pub enum TermChoice {
+    /// All terms of the specification, and then all input terms.
+    All,
+    /// The input terms.
+    Input,
+    /// The term with this number, counted from 1 over the terms of the specification and then the
+    /// input terms. If there are fewer terms, no term.
+    Nth(u64),
 }
 
 /// All settings of a run.
@@ -51,8 +65,12 @@ pub struct RunSettings {
     pub limits: LimitLines,
     /// The form of values.
     pub form: ValueForm,
+    /// Whether a tab and the number of cells follow each value, after the number of steps.
+    pub sizes: bool,
     /// The call-depth limit in frames. With `None`, only memory limits the depth.
     pub depth: Option<u32>,
+    /// The terms that are evaluated.
+    pub terms: TermChoice,
 }
 
 /// The allocator and the settings of a run.

@@ -1,5 +1,5 @@
 //! Short forms of `run_given` without settings and observer: limit lines have no annotations, values
-//! have any length, and there is no call-depth limit.
+//! have any length and no sizes, there is no call-depth limit, and all terms are evaluated.
 #![tactic(auto, using(crate::proofs::PlacedLemmas::told_steps))]
 
 ghost use Rattle.std.specs.Prelude.{◌≡◌, None, IfErr, IfOk, OnErr, OnOk, Some, option_map};
@@ -11,7 +11,7 @@ ghost use Rattle.rec_run.specs.Output.{bare, shown_of};
 ghost use Rattle.rec_run.specs.Run.{HasRoom, IsDueFor, Leads, Stays, both_texts, terms_text};
 
 use crate::observer::unobserved;
-use crate::options::{LimitLines, RunOptions, RunSettings, ValueForm};
+use crate::options::{LimitLines, RunOptions, RunSettings, TermChoice, ValueForm};
 use crate::spec::due::RunReport;
 use crate::spec::given::run_given;
 use crate::spec::input_terms::NoTerms;
@@ -97,7 +97,9 @@ pub fn run_at<R: Read, T: Read, W: Write>(
         options,
         limits: LimitLines::Bare,
         form: ValueForm::Plain,
+        sizes: false,
         depth: None,
+        terms: TermChoice::All,
     };
     let mut observer = unobserved();
     match terms {

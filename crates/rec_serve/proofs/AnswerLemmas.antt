@@ -1,12 +1,13 @@
 -- What holds of answers, and of what is due for requests.
-use Rattle.std.proofs.Common.{◌≡◌, ◌≢◌, ℕ, suc, ◌+◌, ◌-◌, ◌<◌, ◌^◌, Bool, true, false, List, [], ◌∷◌, ◌++◌, Option, Some}
+use Rattle.std.proofs.Common.{◌≡◌, ◌≢◌, ℕ, ◌-◌, ◌<◌, ◌^◌, Bool, true, false, List, [], ◌∷◌, ◌++◌, Option, Some}
 use Rattle.std.proofs.Common.{None, cond, inl, inr, refl, sym, ap, ap₂, subst, ◌∙◌, append_assoc, get_or, length, arith}
-use Rattle.std.specs.Prelude.{◌⊎◌, IsTrue, codes, decimal, nat_le, nat_lt, not}
-use Rattle.std.specs.List.{list_all, list_any}
+use Rattle.std.specs.Prelude.{◌⊎◌, IsTrue, codes, decimal, map, nat_le, nat_lt, not}
+use Rattle.std.specs.List.{list_all}
 use Rattle.std.proofs.lemmas.Bool.{and_parts}
 use Rattle.rx_term.specs.Name.{plain_name, starts_name, continues_name}
-use Rattle.rx_term.specs.Tree.{Tree, Trees, Int, Appl, Items, Hole, annotated, annotations}
+use Rattle.rx_term.specs.Tree.{Tree, Trees, Int, Appl, Items, Hole, annotated, annotations, from_list, list_of}
 use Rattle.rx_text.specs.Canon.{canon}
+use Rattle.rx_table.specs.Table.{entry, shared, written}
 use Rattle.rx_text.specs.Grammar.{Spells}
 use Rattle.rx_text.specs.Verdict.{Verdict, TooLong, Outside, Spelt, IsVerdict}
 use Rattle.rx_text.proofs.VerdictLemmas.{one_verdict}
@@ -14,19 +15,18 @@ use Rattle.rx_text.proofs.ValidLemmas.{spelt_valid}
 use Rattle.rec_syntax.specs.Syntax.{Spec}
 use Rattle.rec_sorts.specs.Evaluation.{Outcome, Done, Over, Eval, term_of}
 use Rattle.rec_sorts.specs.Numbering.{Pairwise}
-use Rattle.rec_sorts.specs.TermRules.{arguments, broken_by_elements, first_passed, is_annotated, is_ill_filled}
-use Rattle.rec_sorts.specs.TermRules.{is_ill_sorted, is_no_application, is_undeclared, nodes, nodes_all}
+use Rattle.rec_sorts.specs.TermRules.{broken_by_elements}
 use Rattle.rec_engine.proofs.ValueTreeLemmas.{IsApplied, value_is_applied}
 use Rattle.rx_run.specs.Bytes.{newlines}
 use Rattle.rec_run.specs.GivenTerms.{given_text}
-use Rattle.rec_run.specs.Output.{Whole, Longer, line, printed, shown_by, value_text}
+use Rattle.rec_run.specs.Output.{Whole, Longer, line, printed, shown_by, value_line, value_text}
 use Rattle.rec_run.specs.declared.options.LimitLines.TheVariants.{Bare}
-use Rattle.rec_run.specs.declared.options.ValueForm.TheVariants.{Plain, Within}
+use Rattle.rec_run.specs.declared.options.ValueForm.TheVariants.{Plain, Within, Table}
 use Rattle.rx_run.specs.Due.{steps_text}
 use Rattle.rec_run.specs.Reading.{evaluation_text}
-use Rattle.rec_run.proofs.GivenLemmas.{annotations_trees, notes-newlines}
+use Rattle.rec_run.proofs.GivenLemmas.{annotations_trees}
 use Rattle.rx_run.proofs.NewlineLemmas.{no_ends}
-use Rattle.rec_run.proofs.LineEndLemmas.{decimal-newlines}
+use Rattle.rec_run.proofs.LineEndLemmas.{decimal-newlines, trees-in_line}
 use Rattle.rec_run.proofs.SpecLineLemmas.{given_text-newlines}
 use Rattle.rec_serve.specs.Conversation.{IsAnswer, IsDue, answer_after, answer_by, joined, requests}
 use Rattle.rec_serve.specs.Laws.{NoWant, OneAnswer, OneLine, SplitLaw}
@@ -55,7 +55,7 @@ pub line-text : (y : Spec) (counted : Bool) (form : ValueForm) (n : ℕ) (u : Tr
 line-text y counted form n u = by (Eval y n [] (term_of u))
   where
     by : (o : Outcome Tree) → ◌≡◌ {A = List ℕ} (elim o [
-      | Done v left ↦ value_text Bare (annotations u) (steps_text counted (n - left)) (printed form (canon (annotated v (annotations u)))) ++ codes "\n"
+      | Done v left ↦ value_line (shown_by counted Bare form) (annotations u) (n - left) (annotated v (annotations u)) ++ codes "\n"
       | Over ↦ codes "!limit " ++ decimal n ++ codes "\n"
     ]) (evaluation_text (annotations u) (shown_by counted Bare form) n o ++ codes "\n")
     by (Done v left) = refl
@@ -74,7 +74,7 @@ tree_line y counted form n r t few low spelt None e =
     record {
       text = given_text y (shown_by counted Bare form) n t;
       is = line-text y counted form n t;
-      none = given_text-newlines y (shown_by counted Bare form) n few t (notes-newlines (annotations t) (annotations_trees t (spelt_valid r t low spelt)));
+      none = given_text-newlines y (shown_by counted Bare form) n few t (trees-in_line (annotations t) (annotations_trees t (spelt_valid r t low spelt)));
     }
 
 after_line : (y : Spec) (counted : Bool) (form : ValueForm) (n : ℕ) (r : List ℕ) → n < 2 ^ 64 → IsTrue (list_all (λ b. nat_lt b 256) r) → (v : Verdict) → IsVerdict r v
@@ -139,9 +139,17 @@ whole_wants depth v notes steps a w =
     other_first depth _ (λ k. value_first v notes (steps ++ codes "\n") a
     (ap (λ z. get_or z 0 0) (sym (append_assoc (canon (annotated v notes)) steps (codes "\n"))) ∙ k)) w
 
+-- a list begins with a bracket
+list_wants : (depth : Option ℕ) (items : Trees) (steps : List ℕ) → IsWant depth ((canon (list_of items) ++ steps) ++ codes "\n") → ⊥
+list_wants depth items steps w = other_first depth _ (λ k. let e : 91 ≡ 33 = k in absurd (omega (arith, e))) w
+
 value_wants : (depth : Option ℕ) (v : Tree) (notes : Trees) (steps : List ℕ) (form : ValueForm) → IsApplied v
-    → IsWant depth (value_text Bare notes steps (printed form (canon (annotated v notes))) ++ codes "\n") → ⊥
+    → IsWant depth (value_text Bare notes steps (printed form (annotated v notes)) ++ codes "\n") → ⊥
 value_wants depth v notes steps Plain a w = whole_wants depth v notes steps a w
+value_wants depth v notes steps Table a w =
+    let u = annotated v notes in
+    let ps = shared u in
+    list_wants depth (from_list (map (entry ps) ps ++ written ps u ∷ [])) steps w
 value_wants depth v notes steps (Within most) a w = by (nat_le (length (canon (annotated v notes))) most) w
   where
     by : (b : Bool) → IsWant depth (value_text Bare notes steps (cond b (Whole (canon (annotated v notes))) (Longer most)) ++ codes "\n") → ⊥

@@ -2,9 +2,8 @@
 use Rattle.std.proofs.Common.{◌≡◌, ℕ, ◌-◌, List, [], ◌∷◌, ◌++◌, Bool, false, ◌<◌, length, take, Option, Some, None}
 use Rattle.std.proofs.Common.{IfSome, IsSome, refl, sym, ap, ap₂, subst, ◌∙◌, append-nil, arith}
 use Rattle.std.specs.Prelude.{Err, IfOk, MatchBool, Ok, Result, codes, option_map, unwrap_or}
-use Rattle.rx_term.specs.Tree.{Tree, Trees, annotated, annotations, list_of, none}
+use Rattle.rx_term.specs.Tree.{Tree, Trees, Int, Appl, Items, Hole, annotated, annotations, list_of, none}
 use Rattle.rx_term.specs.Store.{Store, tree_at}
-use Rattle.rx_text.specs.Canon.{canon}
 use Rattle.rec_syntax.specs.Syntax.{Spec}
 use Rattle.rec_sorts.specs.Binding.{tree_of}
 use Rattle.rec_sorts.specs.Evaluation.{Done, Eval, term_of}
@@ -13,15 +12,13 @@ use Rattle.rec_engine.specs.Engine.{IsOutcome}
 use Rattle.rec_engine.specs.declared.engine.errors.EngineFault.{EngineFault}
 use Rattle.rec_engine.specs.declared.engine.Outcome.{Outcome}
 use Rattle.rec_engine.specs.declared.engine.Outcome.TheVariants.{Value, Limit}
-use Rattle.rec_engine.proofs.ValueTreeLemmas.{value_is_applied, applied_unannotated}
 use Rattle.rec_run.specs.GivenTerms.{given_text, item_at}
 use Rattle.rec_run.specs.EvaluatedLines.{unsaid}
-use Rattle.rec_run.specs.Output.{Printed, Whole, Longer, line, notes_text, printed, shown_by, value_text}
+use Rattle.rec_run.specs.Output.{Printed, Whole, Longer, line, printed, shown_by, value_text}
 use Rattle.rec_run.specs.declared.options.LimitLines.TheVariants.{Bare}
 use Rattle.rx_run.specs.Due.{steps_text}
 use Rattle.rec_run.specs.Reading.{evaluation_text}
 use Rattle.rec_run.proofs.EvaluatedLemmas.{bare_tree, eval-tree}
-use Rattle.rec_run.proofs.SpecLineLemmas.{canon_annotated}
 use Rattle.rx_term.specs.Steps.{Grows}
 use Rattle.rx_term.specs.Tree.{more}
 use Rattle.rx_term.specs.declared.Term.{Term as Reference}
@@ -34,6 +31,7 @@ use Rattle.rec_sorts.specs.declared.fault.TermsFault.TheVariants as rule
 use Rattle.rec_serve.specs.Answering.{AnswersTree, IsAnswered, refusal_after, refusal_line, shown}
 use Rattle.rec_serve.specs.Conversation.{IsAnswer, answer_after, answer_by}
 use Rattle.rec_serve.specs.Inner.Reading.{IsRead}
+use Rattle.rec_serve.specs.Inner.Values.{HasBareValue}
 use Rattle.rec_serve.specs.declared.answers.Answered.{Answered}
 use Rattle.rec_serve.specs.declared.ending.Refusal.{Refusal}
 use Rattle.rec_serve.specs.declared.ending.Refusal.TheVariants as refusal
@@ -46,6 +44,30 @@ unsaid-bare : (notes : Trees) (steps : List ℕ) (p : Printed) → unsaid steps 
 unsaid-bare notes steps (Whole text) = refl
 unsaid-bare notes steps (Longer most) = refl
 
+-- the annotations of a tree are replaced whatever they were
+annotated-again : (t : Tree) (a b : Trees) → annotated (annotated t a) b ≡ annotated t b
+annotated-again (Int z anns) a b = refl
+annotated-again (Appl name quoted args anns) a b = refl
+annotated-again (Items items anns) a b = refl
+annotated-again (Hole inner anns) a b = refl
+
+annotated-has : (t : Tree) (a : Trees) → annotations (annotated t a) ≡ a
+annotated-has (Int z anns) a = refl
+annotated-has (Appl name quoted args anns) a = refl
+annotated-has (Items items anns) a = refl
+annotated-has (Hole inner anns) a = refl
+
+-- the bare tree of a term comes to a value without annotations
+bare_of : (y : Spec) (w : Store) (n : ℕ) (u : Tree) (o : Outcome) → IsOutcome y w n (tree_of (term_of u)) o → HasBareValue w o
+bare_of y w n u (Value r steps) h =
+    let notes = annotations (tree_of (term_of u)) in
+    (annotated h.value notes, h.there, annotated-has h.value notes ∙ bare_tree (term_of u))
+bare_of y w n u Limit h = tt
+
+pub bare_value : {B : Type 0} (store : B → Store) (y : Spec) (asked new : B) (n : ℕ) (u : Tree) (o : Outcome) → asked ≡ new
+    → IsOutcome y (store new) n (tree_of (term_of u)) o → HasBareValue (store asked) o
+bare_value store y asked new n u o one is = subst (λ b. HasBareValue (store b) o) (sym one) (bare_of y (store new) n u o is)
+
 -- what is shown of what the bare tree of a term comes to is the text of the term's line
 pub shown-text : (y : Spec) (w : Store) (counted : Bool) (form : ValueForm) (n : ℕ) (u : Tree) (o : Outcome) → IsOutcome y w n (tree_of (term_of u)) o
     → shown w counted form n (annotations u) o ≡ given_text y (shown_by counted Bare form) n u
@@ -54,12 +76,10 @@ shown-text y w counted form n u (Value r steps) h =
     let spent = h.spent in
     let back : steps ≡ n - h.left = omega (arith, spent) in
     let done : Eval y n [] (term_of u) ≡ Done h.value h.left = sym (eval-tree y n (term_of u)) ∙ h.evaluated in
-    let plain : annotations h.value ≡ none = applied_unannotated h.value (value_is_applied y n (term_of u) h.value h.left done) in
     let here : item_at w r ≡ annotated h.value none = ap (λ o. unwrap_or o (list_of none)) h.there ∙ ap (annotated h.value) (bare_tree (term_of u)) in
-    let body : canon (item_at w r) ≡ canon h.value = ap canon here ∙ canon_annotated h.value none plain ∙ append-nil (canon h.value) in
-    ap₂ (λ x k. unsaid (steps_text counted k) (printed form (x ++ notes_text notes))) body back
-    ∙ ap (λ x. unsaid (steps_text counted (n - h.left)) (printed form x)) (sym (canon_annotated h.value notes plain))
-    ∙ unsaid-bare notes (steps_text counted (n - h.left)) (printed form (canon (annotated h.value notes)))
+    ap₂ (λ x k. unsaid (steps_text counted k) (printed form (annotated x notes))) here back
+    ∙ ap (λ x. unsaid (steps_text counted (n - h.left)) (printed form x)) (annotated-again h.value none notes)
+    ∙ unsaid-bare notes (steps_text counted (n - h.left)) (printed form (annotated h.value notes))
     ∙ ap (evaluation_text notes (shown_by counted Bare form) n) (sym done)
 shown-text y w counted form n u Limit h = ap (evaluation_text (annotations u) (shown_by counted Bare form) n) (sym h ∙ eval-tree y n (term_of u))
 

@@ -20,7 +20,7 @@ use Rattle.rec_serve.specs.Answering.{CellsOnly, DeepOnly, text_of}
 use Rattle.rec_serve.specs.Conversation.{IsAnswer}
 use Rattle.rec_serve.specs.Inner.Banks.{IsEmptied, IsUnrooted}
 use Rattle.rec_serve.specs.Inner.Reading.{IsRead}
-use Rattle.rec_serve.specs.Inner.Reasons.{HasReason, IsReasoned, IsReplyOf, IsReplyOnce, IsStoreFull}
+use Rattle.rec_serve.specs.Inner.Reasons.{HasReason, IsReasoned, IsReplyOf, IsStoreFull}
 use Rattle.rec_serve.specs.Replies.{IsReply, IsTooDeep, IsWant}
 use Rattle.rec_serve.specs.Inner.Steps.{EndsStep, Replies, StopsStep}
 use Rattle.rec_serve.specs.declared.answers.Answered.{Answered}
@@ -95,7 +95,7 @@ at_some P None x e h = absurd (cc e)
 at_some P (Some y) x e h = let same : y ≡ x = cc e in rw same h
 
 pub reason_of : {B : Type 0} (store : B → Store) (ws : Workspace) (e : EngineState B) (own : Store) (depth : Option ℕ) (r : Result Answered EngineFault)
-    → (cells own ≡ own.cap → IsStoreFull ws) → ws.settings.depth ≡ depth → IfErr r (CellsOnly own (store e.bank) e.work e.memo)
+    → (cells own ≡ own.cap → IsStoreFull ws) → ws.session.settings.depth ≡ depth → IfErr r (CellsOnly own (store e.bank) e.work e.memo)
     → IfErr r (DeepOnly e.waiting depth) → IfErr r (HasReason store ws e)
 reason_of store ws e own depth (Ok a) full same room deep = tt
 reason_of store ws e own depth (Err fault.Memory) full same room deep = tt
@@ -115,47 +115,45 @@ reply_is store y s ws e q (Err fault.Deep) reason h line is = inr (inr (inr (ref
 
 -- ---- replies of a conversation
 
-module _ {B : Type 0} (store : B → Store) (y : Spec) (s : ServeSettings) where
-  -- a reason that there is now was there once
-  once : (ws : Workspace) (e : EngineState B) → ws.settings ≡ s → (r t : List ℕ) → IsReplyOf store y s ws e r t → IsReplyOnce store y s r t
-  once ws e same r t (inl a) = inl a
-  once ws e same r t (inr h) = inr (record { workspace = ws; engine = e; bound = ap (λ x. x.depth) same; is = h })
+deep_line : (depth : Option ℕ) (waiting : ℕ) (t : List ℕ) → t ≡ codes "!depth\n" → depth ≡ Some waiting → IsTooDeep depth t
+deep_line None waiting t e full = absurd (cc full)
+deep_line (Some d) waiting t e full = e
 
-  pub replies_once : (z : Spec) (u : ServeSettings) (ws : Workspace) (e : EngineState B) (m : Bool) (old left remaining was now : Option (List ℕ))
-      → m ≡ true → z ≡ y → u ≡ s → ws.settings ≡ u
+-- replies of a conversation with these settings
+abbrev pub IsReplyFor : Spec → ServeSettings → List ℕ → List ℕ → Type 0
+IsReplyFor y s = IsReply y s.options.count s.form s.options.steps s.depth
+
+module _ {B : Type 0} (store : B → Store) (y : Spec) (s : ServeSettings) where
+  reasoned_want : (ws : Workspace) (e : EngineState B) (t : List ℕ) → ws.session.settings ≡ s → IsReasoned store ws e t → IsWant s.depth t
+  reasoned_want ws e t same (inl k) = inl k
+  reasoned_want ws e t same (inr (inl k)) = inr (inl k.0)
+  reasoned_want ws e t same (inr (inr k)) =
+      inr (inr (deep_line s.depth e.waiting t k.0 (sym (ap (λ x. x.depth) same) ∙ k.1)))
+
+  -- a reply that has its reason now is one of a conversation
+  now_reply : (ws : Workspace) (e : EngineState B) → ws.session.settings ≡ s → (r t : List ℕ) → IsReplyOf store y s ws e r t → IsReplyFor y s r t
+  now_reply ws e same r t (inl a) = inl a
+  now_reply ws e same r t (inr h) = inr (reasoned_want ws e t same h)
+
+  pub replies_now : (z : Spec) (u : ServeSettings) (ws : Workspace) (e : EngineState B) (m : Bool) (old left remaining was now : Option (List ℕ))
+      → m ≡ true → z ≡ y → u ≡ s → ws.session.settings ≡ u
       → MatchBool m (Replies (IsReplyOf store z u ws e) old left was now) (EndsStep old remaining was now)
-      → Replies (IsReplyOnce store y s) old left was now
-  replies_once z u ws e m old left remaining was now is spec settings same h =
+      → Replies (IsReplyFor y s) old left was now
+  replies_now z u ws e m old left remaining was now is spec settings same h =
       let step : Replies (IsReplyOf store z u ws e) old left was now =
       subst (λ (b : Bool). MatchBool b (Replies (IsReplyOf store z u ws e) old left was now) (EndsStep old remaining was now)) is h in
       let here : Replies (IsReplyOf store y s ws e) old left was now =
       subst (λ (v : ServeSettings). Replies (IsReplyOf store y v ws e) old left was now) settings
       (subst (λ x. Replies (IsReplyOf store x u ws e) old left was now) spec step) in
-      replies_weaker (IsReplyOf store y s ws e) (IsReplyOnce store y s) (once ws e (same ∙ settings)) old left was now here
+      replies_weaker (IsReplyOf store y s ws e) (IsReplyFor y s) (now_reply ws e (same ∙ settings)) old left was now here
 
-  pub stops_once : (z : Spec) (u : ServeSettings) (ws : Workspace) (e : EngineState B) (f : ServeFault) (old was now : Option (List ℕ))
-      → z ≡ y → u ≡ s → ws.settings ≡ u → StopsStep (IsReplyOf store z u ws e) f old was now → StopsStep (IsReplyOnce store y s) f old was now
-  stops_once z u ws e f old was now spec settings same h =
+  pub stops_now : (z : Spec) (u : ServeSettings) (ws : Workspace) (e : EngineState B) (f : ServeFault) (old was now : Option (List ℕ))
+      → z ≡ y → u ≡ s → ws.session.settings ≡ u → StopsStep (IsReplyOf store z u ws e) f old was now → StopsStep (IsReplyFor y s) f old was now
+  stops_now z u ws e f old was now spec settings same h =
       let here : StopsStep (IsReplyOf store y s ws e) f old was now =
       subst (λ (v : ServeSettings). StopsStep (IsReplyOf store y v ws e) f old was now) settings
       (subst (λ x. StopsStep (IsReplyOf store x u ws e) f old was now) spec h) in
-      stops_weaker (IsReplyOf store y s ws e) (IsReplyOnce store y s) (once ws e (same ∙ settings)) f old was now here
-
-  deep_line : (depth : Option ℕ) (waiting : ℕ) (t : List ℕ) → t ≡ codes "!depth\n" → depth ≡ Some waiting → IsTooDeep depth t
-  deep_line None waiting t e full = absurd (cc full)
-  deep_line (Some d) waiting t e full = e
-
-  reasoned_want : (ws : Workspace) (e : EngineState B) (depth : Option ℕ) (t : List ℕ) → ws.settings.depth ≡ depth → IsReasoned store ws e t
-      → IsWant depth t
-  reasoned_want ws e depth t bound (inl k) = inl k
-  reasoned_want ws e depth t bound (inr (inl k)) = inr (inl k.0)
-  reasoned_want ws e depth t bound (inr (inr k)) = inr (inr (deep_line depth e.waiting t k.0 (sym bound ∙ k.1)))
-
-  -- and such replies are those of a conversation
-  pub once_reply : (z : ServeSettings) → s ≡ z → (r t : List ℕ) → IsReplyOnce store y s r t
-      → IsReply y z.options.count z.form z.options.steps z.depth r t
-  once_reply z same r t (inl a) = inl (subst (λ (x : ServeSettings). IsAnswer y x.options.count x.form x.options.steps r t) same a)
-  once_reply z same r t (inr h) = inr (reasoned_want h.workspace h.engine z.depth t (h.bound ∙ ap (λ x. x.depth) same) h.is)
+      stops_weaker (IsReplyOf store y s ws e) (IsReplyFor y s) (now_reply ws e (same ∙ settings)) f old was now here
 
 -- what holds at a value holds of each
 pub if_ok_on : {X E : Type 0} (When : X → Type 0) (P : Type 0) (r : Result X E) → OnOk r P → IfOk r (λ x. When x → P)

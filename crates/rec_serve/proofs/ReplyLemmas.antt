@@ -1,5 +1,5 @@
 -- Replies one after the other.
-use Rattle.std.proofs.Common.{◌≡◌, ℕ, ◌+◌, List, [], ◌∷◌, ◌++◌, Option, Some, None, IfErr, IfSome, OnOk, Result, Ok, Err}
+use Rattle.std.proofs.Common.{◌≡◌, ℕ, ◌+◌, List, [], ◌∷◌, ◌++◌, Option, Some, None, IfSome}
 use Rattle.std.proofs.Common.{inl, inr, refl, sym, ap, subst, ◌∙◌, append-nil, length, arith}
 use Rattle.std.specs.Prelude.{MatchOption}
 use Rattle.std.proofs.lemmas.List.{length-append}
@@ -167,12 +167,6 @@ module _ (Reply : List ℕ → List ℕ → Type 0) where
 -- ---- what follows from each reply
 
 module _ (Q R : List ℕ → List ℕ → Type 0) (weaker : (r t : List ℕ) → Q r t → R r t) where
-  pairwise_weaker : (rs ts : List (List ℕ)) → Pairwise Q rs ts → Pairwise R rs ts
-  pairwise_weaker [] [] h = tt
-  pairwise_weaker [] (t ∷ ts) h = absurd h
-  pairwise_weaker (r ∷ rs) [] h = absurd h
-  pairwise_weaker (r ∷ rs) (t ∷ ts) h = (weaker r t h.0, pairwise_weaker rs ts h.1)
-
   pub replies_weaker : (old left was now : Option (List ℕ)) → Replies Q old left was now → Replies R old left was now
   replies_weaker old left was now h =
       record { line = h.line; text = h.text; split = h.split; is = weaker h.line h.text h.is; written = h.written }
@@ -183,34 +177,3 @@ module _ (Q R : List ℕ → List ℕ → Type 0) (weaker : (r t : List ℕ) →
   stops_weaker (serve.Write before) old was now (inl k) = inl k
   stops_weaker (serve.Write before) old was now (inr s) =
       inr (record { left = s.left; line = s.line; text = s.text; split = s.split; is = weaker s.line s.text s.is; written = s.written })
-
-  part_weaker : (fault : ServeFault) (left : List (List ℕ)) (part : List ℕ) → IsPart Q fault left part → IsPart R fault left part
-  part_weaker serve.Memory left part h = h
-  part_weaker (serve.Read a) left part h = h
-  part_weaker (serve.Write a) [] part h = h
-  part_weaker (serve.Write a) (r ∷ rs) part (inl e) = inl e
-  part_weaker (serve.Write a) (r ∷ rs) part (inr k) = inr (k.0, weaker r k.0 k.1, k.2)
-
-  pub converses_weaker : {X E : Type 0} (result : Result X E) (known old new : Option (List ℕ))
-      → OnOk result (IfSome known (λ bytes. ConversesBy Q bytes old new)) → OnOk result (IfSome known (λ bytes. ConversesBy R bytes old new))
-  converses_weaker (Err e) known old new h = tt
-  converses_weaker (Ok x) None old new h = tt
-  converses_weaker (Ok x) (Some bytes) old new h =
-      record { replies = h.replies; each = pairwise_weaker (requests bytes) h.replies h.each; written = h.written }
-
-  pub breaks_weaker : {X : Type 0} (result : Result X ServeFault) (known old new : Option (List ℕ))
-      → IfErr result (λ fault. IfSome known (λ bytes. BreaksOffBy Q bytes fault old new))
-      → IfErr result (λ fault. IfSome known (λ bytes. BreaksOffBy R bytes fault old new))
-  breaks_weaker (Ok x) known old new h = tt
-  breaks_weaker (Err fault) None old new h = tt
-  breaks_weaker (Err fault) (Some bytes) old new h = record {
-    done = h.done;
-    left = h.left;
-    split = h.split;
-    replies = h.replies;
-    each = pairwise_weaker h.done h.replies h.each;
-    count = h.count;
-    part = h.part;
-    begun = part_weaker fault h.left h.part h.begun;
-    written = h.written;
-  }

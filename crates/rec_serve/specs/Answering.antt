@@ -5,10 +5,9 @@
 --     IsAnswered y counted form n r a  the specified response to a request, with its reason
 use Rattle.std.specs.Prelude.{ℕ, ◌≡◌, ◌⊎◌, Bool, Option, Some, Result, Ok, Err, List, [], ◌∷◌, ◌++◌}
 use Rattle.std.specs.Prelude.{codes, decimal, option_map}
-use Rattle.rx_term.specs.Tree.{Tree, Trees}
+use Rattle.rx_term.specs.Tree.{Tree, Trees, annotated}
 use Rattle.rx_term.specs.Store.{Store, cells}
 use Rattle.rx_term.specs.declared.Term.{Term}
-use Rattle.rx_text.specs.Canon.{canon}
 use Rattle.rx_text.specs.Verdict.{Verdict, TooLong, Outside, Spelt, IsVerdict}
 use Rattle.rec_syntax.specs.Syntax.{Spec}
 use Rattle.rec_sorts.specs.TermRules.{broken_by_elements}
@@ -20,7 +19,7 @@ use Rattle.rec_engine.specs.declared.engine.Outcome.{Outcome}
 use Rattle.rec_engine.specs.declared.engine.Outcome.TheVariants.{Value, Limit}
 use Rattle.rec_run.specs.GivenTerms.{item_at}
 use Rattle.rec_run.specs.EvaluatedLines.{unsaid}
-use Rattle.rec_run.specs.Output.{notes_text, printed}
+use Rattle.rec_run.specs.Output.{printed}
 use Rattle.rx_run.specs.Due.{steps_text}
 use Rattle.rec_serve.specs.Conversation.{answer_after, answer_by}
 use Rattle.rec_serve.specs.declared.answers.Answered.{Answered}
@@ -43,7 +42,7 @@ refusal_line (refusal.Rule number) = codes "!term T" ++ decimal number ++ codes 
 -- the text of the outcome of a term with these annotations, without a line end
 abbrev pub shown : Store → Bool → ValueForm → ℕ → Trees → Outcome → List ℕ
 shown w counted form n notes (Value r steps) = unsaid (steps_text counted steps)
-    (printed form (canon (item_at w r) ++ notes_text notes))
+    (printed form (annotated (item_at w r) notes))
 shown w counted form n notes Limit = codes "!limit " ++ decimal n
 
 -- the specified response to a request, with the reason why it is rejected

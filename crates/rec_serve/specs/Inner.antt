@@ -7,3 +7,4 @@ pub mod Reading
 pub mod Reasons
 pub mod Replying
 pub mod Steps
+pub mod Values

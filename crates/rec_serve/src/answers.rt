@@ -18,7 +18,7 @@ ghost use Rattle.rx_term.specs.Steps.{Grows, IsBankRefusal, Keeps};
 ghost use Rattle.rx_term.specs.Store.{tree_at};
 ghost use Rattle.rx_term.specs.Tree.{Tree, list_of, more, none};
 ghost use Rattle.rec_engine.specs.Limits.{KeepsLimit};
-ghost use Rattle.rec_engine.specs.Engine.{IsGiven, IsOutcome, SameEngine};
+ghost use Rattle.rec_engine.specs.Engine.{IsGiven, SameEngine};
 ghost use Rattle.rec_sorts.specs.Binding.{tree_of};
 ghost use Rattle.rec_sorts.specs.Evaluation.{term_of};
 ghost use Rattle.rec_sorts.specs.Numbering.{AreLetters};
@@ -33,9 +33,9 @@ ghost use Rattle.rec_serve.specs.Answering.{
 ghost use Rattle.rec_serve.specs.Inner.Asked.{KeepsRules, of_store};
 
 use crate::ending::Refusal;
-use crate::lines::{refusal_text, write_outcome};
-use crate::settings::ServeSettings;
-use rec_engine::{Engine, EngineFault, Outcome};
+use crate::lines::{outcome_text, refusal_text};
+use crate::settings::Session;
+use rec_engine::{Engine, EngineFault};
 use rec_run::evaluate_within;
 use rec_sorts::{Checked, Letter, TermsFault, check_terms, term_letters};
 use rx_term::{BankFault, Term, TermBank};
@@ -56,25 +56,26 @@ pub struct Answered {
 /// `EngineFault::Deep` only if as many calls are pending as the settings allow. After an error the
 /// engine can answer the next request.
 pub fn answer<N: TermBank, B: TermBank>(
-    alloc: Global,
+    session: Session,
     own: &mut N,
     engine: &mut Engine<B>,
     request: &[u8],
-    settings: ServeSettings,
 ) -> Result<Answered, EngineFault>
     ensures answered { IfOk result
-        (IsAnswered engine.old.spec settings.options.count settings.form settings.options.steps request.now) }
+        (IsAnswered engine.old.spec session.settings.options.count session.settings.form
+        session.settings.options.steps request.now) }
     ensures same { SameEngine engine.old engine.new }
     ensures keeps { Keeps (B.store engine.old.bank) (B.store engine.new.bank) [] }
     ensures grows { Grows (N.store own.old) (N.store own.new) }
     ensures room { IfErr result (CellsOnly (N.store own.new) (B.store engine.new.bank)
         engine.new.work engine.new.memo) }
-    ensures deep { IfErr result (DeepOnly engine.new.waiting settings.depth) }
+    ensures deep { IfErr result (DeepOnly engine.new.waiting session.settings.depth) }
     ensures bound { IfOk result (λ a. a.refusal ≡ None
-        → KeepsLimit settings.depth engine.new.bound engine.new.waiting) }
+        → KeepsLimit session.settings.depth engine.new.bound engine.new.waiting) }
 {
+    let alloc = session.alloc;
     match rx_text::read(alloc, request, own) {
-        Ok(term) => answer_term(alloc, own, engine, term, settings),
+        Ok(term) => answer_term(session, own, engine, term),
         Err(TextFault::Long) => refuse(alloc, Refusal::Long),
         Err(TextFault::Grammar { at }) => refuse(alloc, Refusal::Outside { at }),
         Err(TextFault::Memory) => Err(EngineFault::Memory),
@@ -99,31 +100,31 @@ fn refuse(alloc: Global, refusal: Refusal) -> Result<Answered, EngineFault>
 
 /// Returns the response to a request that is a term.
 fn answer_term<N: TermBank, B: TermBank>(
-    alloc: Global,
+    session: Session,
     own: &mut N,
     engine: &mut Engine<B>,
     term: Term,
-    settings: ServeSettings,
 ) -> Result<Answered, EngineFault>
     requires { IsSome (tree_at (N.store own.old) term) }
     ensures answered { IfOk result (λ a. IfSome (tree_at (N.store own.old) term)
-        (λ t. AnswersTree engine.old.spec settings.options.count settings.form settings.options.steps t a)) }
+        (λ t. AnswersTree engine.old.spec session.settings.options.count session.settings.form
+        session.settings.options.steps t a)) }
     ensures same { SameEngine engine.old engine.new }
     ensures keeps { Keeps (B.store engine.old.bank) (B.store engine.new.bank) [] }
     ensures grows { Grows (N.store own.old) (N.store own.new) }
     ensures room { IfErr result (CellsOnly (N.store own.new) (B.store engine.new.bank)
         engine.new.work engine.new.memo) }
-    ensures deep { IfErr result (DeepOnly engine.new.waiting settings.depth) }
+    ensures deep { IfErr result (DeepOnly engine.new.waiting session.settings.depth) }
     ensures bound { IfOk result (λ a. a.refusal ≡ None
-        → KeepsLimit settings.depth engine.new.bound engine.new.waiting) }
+        → KeepsLimit session.settings.depth engine.new.bound engine.new.waiting) }
 {
     let list = match alone(own, term) {
         Ok(list) => list,
         Err(fault) => return Err(store_fault(fault)),
     };
-    match check_terms(alloc, engine.checked(), own, list) {
-        Ok(()) => answer_checked(alloc, own, engine, Asked { term, list }, settings),
-        Err(TermsFault::Rule { number }) => refuse(alloc, Refusal::Rule { number }),
+    match check_terms(session.alloc, engine.checked(), own, list) {
+        Ok(()) => answer_checked(session, own, engine, Asked { term, list }),
+        Err(TermsFault::Rule { number }) => refuse(session.alloc, Refusal::Rule { number }),
         Err(TermsFault::Memory) => Err(EngineFault::Memory),
     }
 }
@@ -161,59 +162,35 @@ struct Asked {
 
 /// Returns the response to a request whose term violates no rule.
 fn answer_checked<N: TermBank, B: TermBank>(
-    alloc: Global,
+    session: Session,
     own: &N,
     engine: &mut Engine<B>,
     asked: Asked,
-    settings: ServeSettings,
 ) -> Result<Answered, EngineFault>
     requires alone { (t : Tree) × (tree_at (N.store own.now) asked.term ≡ Some t)
         × (tree_at (N.store own.now) asked.list ≡ Some (list_of (more t none)))
         × (broken_by_elements engine.old.spec (t ∷ []) ≡ None) }
     ensures answered { IfOk result (λ a. IfSome (tree_at (N.store own.now) asked.term)
-        (λ t. AnswersTree engine.old.spec settings.options.count settings.form settings.options.steps t a)) }
+        (λ t. AnswersTree engine.old.spec session.settings.options.count session.settings.form
+        session.settings.options.steps t a)) }
     ensures same { SameEngine engine.old engine.new }
     ensures keeps { Keeps (B.store engine.old.bank) (B.store engine.new.bank) [] }
     ensures room { IfErr result (CellsOnly (N.store own.now) (B.store engine.new.bank)
         engine.new.work engine.new.memo) }
-    ensures deep { IfErr result (DeepOnly engine.new.waiting settings.depth) }
+    ensures deep { IfErr result (DeepOnly engine.new.waiting session.settings.depth) }
     ensures bound { OnOk result
-        (KeepsLimit settings.depth engine.new.bound engine.new.waiting) }
+        (KeepsLimit session.settings.depth engine.new.bound engine.new.waiting) }
 {
-    let outcome = outcome_of(alloc, own, engine, asked.list, settings)?;
-    let mut text = Vec::new(alloc);
-    match write_outcome(own, asked.term, engine.bank(), outcome, settings, &mut text) {
-        Ok(()) => Ok(Answered {
+    let settings = session.settings;
+    let given = given_from(session.alloc, own, engine, asked.list)?;
+    let outcome = evaluate_within(engine, given, settings.options.steps, settings.depth)?;
+    match outcome_text(session, own, asked.term, engine.bank(), outcome) {
+        Ok(text) => Ok(Answered {
             text,
             refusal: None,
         }),
         Err(_) => Err(EngineFault::Memory),
     }
-}
-
-/// Evaluates the only term of a list, which violates no rule.
-fn outcome_of<N: TermBank, B: TermBank>(
-    alloc: Global,
-    own: &N,
-    engine: &mut Engine<B>,
-    list: Term,
-    settings: ServeSettings,
-) -> Result<Outcome, EngineFault>
-    requires { KeepsRules engine.old.spec (N.store own.now) list }
-    ensures outcome { IfOk result (λ o. (t : Tree)
-        → tree_at (N.store own.now) list ≡ Some (list_of (more t none))
-        → IsOutcome engine.new.spec (B.store engine.new.bank) settings.options.steps
-        (tree_of (term_of t)) o) }
-    ensures same { SameEngine engine.old engine.new }
-    ensures keeps { Keeps (B.store engine.old.bank) (B.store engine.new.bank) [] }
-    ensures room { IfErr result (CellsOnly (N.store own.now) (B.store engine.new.bank)
-        engine.new.work engine.new.memo) }
-    ensures deep { IfErr result (DeepOnly engine.new.waiting settings.depth) }
-    ensures bound { OnOk result
-        (KeepsLimit settings.depth engine.new.bound engine.new.waiting) }
-{
-    let given = given_from(alloc, own, engine, list)?;
-    evaluate_within(engine, given, settings.options.steps, settings.depth)
 }
 
 /// Makes the only term of a list, which violates no rule, in the store of an engine and without

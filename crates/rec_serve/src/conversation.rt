@@ -14,23 +14,25 @@ ghost use Rattle.std.specs.Prelude.{
   MatchBool,
   MatchResult,
   None,
+  Ok,
   OnErr,
   OnOk,
+  true,
 };
 ghost use Rattle.std.specs.Io.KnownBytes.{IsAtEnd};
 ghost use Rattle.rx_text.specs.Input.{remaining_in};
 ghost use Rattle.rx_text.specs.Output.{ReportsRefusal, contents_of};
 ghost use Rattle.rec_engine.specs.Engine.{SameEngine};
 ghost use Rattle.rec_engine.specs.Limits.{KeepsLimit};
-ghost use Rattle.rec_serve.specs.Answering.{IsAnswered, text_of};
+ghost use Rattle.rec_serve.specs.Answering.{text_of};
 ghost use Rattle.rec_serve.specs.Conversation.{IsAnswer};
 ghost use Rattle.rec_serve.specs.declared.ending.Refusal.{Refusal};
 ghost use Rattle.rec_serve.specs.Inner.Causes.{ReportsRead, ReportsServeRead, ReportsServeWrite};
 ghost use Rattle.rec_serve.specs.Inner.Heard.{Hears, heard_of};
-ghost use Rattle.rec_serve.specs.Inner.Reading.{IsRead, left_of, unread};
-ghost use Rattle.rec_serve.specs.Inner.Reasons.{HasReason, IsReplyOf, IsReplyOnce};
+ghost use Rattle.rec_serve.specs.Inner.Reading.{IsRead, left_of};
+ghost use Rattle.rec_serve.specs.Inner.Reasons.{HasReason, IsReplyOf};
 ghost use Rattle.rec_serve.specs.Inner.Replying.{IsPartlyRepliedTo, IsRepliedTo};
-ghost use Rattle.rec_serve.specs.Replies.{BreaksOff, BreaksOffBy, Converses, ConversesBy};
+ghost use Rattle.rec_serve.specs.Replies.{BreaksOff, Converses};
 ghost use Rattle.rec_serve.specs.Inner.Steps.{EndsStep, Replies, StopsStep};
 
 use crate::answers::{Answered, answer};
@@ -38,13 +40,13 @@ use crate::ending::{Refusal, ServeFault};
 use crate::read_ahead::ReadAhead;
 use crate::request::Request;
 use crate::requests::next_request;
-use crate::settings::ServeSettings;
+use crate::settings::Session;
 use crate::workspace::Workspace;
 use rec_engine::{Engine, EngineFault};
 use rec_sorts::Checked;
 use rx_term::TermBank;
 use rx_text::{Input, Output, RefusedWrite};
-use std::alloc::Global;
+use std::alloc::AllocError;
 use std::io::{Read, Write};
 
 /// Receives the requests that are rejected.
@@ -82,84 +84,73 @@ impl Listener for Deaf {
 /// specified response, or reports that memory or cells ran out, or that the call-depth limit was
 /// reached if the settings have one. All output is flushed before each read.
 pub fn converse<B: TermBank, R: Read, W: Write, L: Listener>(
-    alloc: Global,
+    session: Session,
     engine: &mut Engine<B>,
     requests: &mut R,
     out: &mut W,
-    settings: ServeSettings,
     listener: &mut L,
 ) -> Result<(), ServeFault>
     ensures same { SameEngine engine.old engine.new }
     ensures output { OnOk result (IfSome (R.remaining requests.old)
-        (λ bytes. Converses engine.old.spec settings.options.count settings.form settings.options.steps
-        settings.depth bytes (W.contents out.old) (W.contents out.new))) }
+        (λ bytes. Converses engine.old.spec session.settings.options.count session.settings.form
+        session.settings.options.steps session.settings.depth bytes (W.contents out.old)
+        (W.contents out.new))) }
     ensures fault { IfErr result (λ fault. IfSome (R.remaining requests.old)
-        (λ bytes. BreaksOff engine.old.spec settings.options.count settings.form settings.options.steps
-        settings.depth bytes fault (W.contents out.old) (W.contents out.new))) }
+        (λ bytes. BreaksOff engine.old.spec session.settings.options.count session.settings.form
+        session.settings.options.steps session.settings.depth bytes fault (W.contents out.old)
+        (W.contents out.new))) }
     ensures requests_read { OnOk result (IsAtEnd (R.remaining requests.new)) }
 {
     let mut input = Input::new(requests);
     let mut output = Output::new(out);
-    converse_from(alloc, engine, settings, &mut input, &mut output, listener)
+    converse_from(session, engine, &mut input, &mut output, listener)
+}
+
+/// The state of a session between two requests.
+#[derive(Drop)]
+struct Progress {
+    /// The session, and the store of the last request.
+    workspace: Workspace,
+    /// The bytes that were read after that request.
+    ahead: ReadAhead,
+    /// The number of requests that were answered.
+    answered: u64,
 }
 
 /// Answers the requests of an input to an output, as `converse` does. A stream that has failed is
 /// not used again.
 pub(crate) fn converse_from<B: TermBank, R: Read, W: Write, L: Listener>(
-    alloc: Global,
+    session: Session,
     engine: &mut Engine<B>,
-    settings: ServeSettings,
     requests: &mut Input<'_, R>,
     out: &mut Output<'_, W>,
     listener: &mut L,
 ) -> Result<(), ServeFault>
     ensures same { SameEngine engine.old engine.new }
     ensures output { OnOk result (IfSome (remaining_in R.remaining requests.old)
-        (λ bytes. Converses engine.old.spec settings.options.count settings.form settings.options.steps
-        settings.depth bytes (contents_of W.contents out.old)
+        (λ bytes. Converses engine.old.spec session.settings.options.count session.settings.form
+        session.settings.options.steps session.settings.depth bytes (contents_of W.contents out.old)
         (contents_of W.contents out.new))) }
     ensures fault { IfErr result (λ fault. IfSome (remaining_in R.remaining requests.old)
-        (λ bytes. BreaksOff engine.old.spec settings.options.count settings.form settings.options.steps
-        settings.depth bytes fault (contents_of W.contents out.old)
-        (contents_of W.contents out.new))) }
-    ensures requests_read { OnOk result (IsAtEnd (remaining_in R.remaining requests.new)) }
-    ensures read_reports { ReportsServeRead requests.old requests.new
-        (remaining_in R.remaining requests.old) result }
-    ensures write_reports { ReportsServeWrite out.old out.new result }
-{
-    match ReadAhead::new(alloc) {
-        Ok(mut ahead) => {
-            let mut workspace = Workspace::new(alloc, settings);
-            converse_on(&mut workspace, engine, &mut ahead, requests, out, listener)
-        }
-        Err(_) => Err(ServeFault::Memory),
-    }
-}
-
-/// Answers the requests of a stream from which nothing was read ahead.
-fn converse_on<B: TermBank, R: Read, W: Write, L: Listener>(
-    workspace: &mut Workspace,
-    engine: &mut Engine<B>,
-    ahead: &mut ReadAhead,
-    requests: &mut Input<'_, R>,
-    out: &mut Output<'_, W>,
-    listener: &mut L,
-) -> Result<(), ServeFault>
-    requires begins { unread ahead.old ≡ [] }
-    ensures same { SameEngine engine.old engine.new }
-    ensures output { OnOk result (IfSome (remaining_in R.remaining requests.old)
-        (λ bytes. ConversesBy (IsReplyOnce B.store engine.old.spec workspace.old.settings) bytes
+        (λ bytes. BreaksOff engine.old.spec session.settings.options.count session.settings.form
+        session.settings.options.steps session.settings.depth bytes fault
         (contents_of W.contents out.old) (contents_of W.contents out.new))) }
-    ensures fault { IfErr result (λ fault. IfSome (remaining_in R.remaining requests.old)
-        (λ bytes. BreaksOffBy (IsReplyOnce B.store engine.old.spec workspace.old.settings) bytes
-        fault (contents_of W.contents out.old) (contents_of W.contents out.new))) }
     ensures requests_read { OnOk result (IsAtEnd (remaining_in R.remaining requests.new)) }
     ensures read_reports { ReportsServeRead requests.old requests.new
         (remaining_in R.remaining requests.old) result }
     ensures write_reports { ReportsServeWrite out.old out.new result }
 {
+    let ahead = match ReadAhead::new(session.alloc) {
+        Ok(ahead) => ahead,
+        Err(AllocError) => return Err(ServeFault::Memory),
+    };
+    let mut progress = Progress {
+        workspace: Workspace::new(session),
+        ahead,
+        answered: 0,
+    };
     for answered in 0..u64::MAX {
-        match answer_next(workspace, engine, ahead, answered, requests, out, listener) {
+        match answer_next(&mut progress, engine, requests, out, listener) {
             Ok(true) => {}
             Ok(false) => return Ok(()),
             Err(fault) => return Err(fault.after(answered)),
@@ -171,45 +162,53 @@ fn converse_on<B: TermBank, R: Read, W: Write, L: Listener>(
 /// Answers the next request, if there is one, and reports it to the listener if it is rejected.
 /// Returns whether there was a request.
 fn answer_next<B: TermBank, R: Read, W: Write, L: Listener>(
-    workspace: &mut Workspace,
+    progress: &mut Progress,
     engine: &mut Engine<B>,
-    ahead: &mut ReadAhead,
-    answered: u64,
     requests: &mut Input<'_, R>,
     out: &mut Output<'_, W>,
     listener: &mut L,
 ) -> Result<bool, ServeFault>
-    requires counted { answered < u64.MAX }
+    requires counted { progress.old.answered < u64.MAX }
     ensures same { SameEngine engine.old engine.new }
-    ensures settings { workspace.new.settings ≡ workspace.old.settings }
+    ensures session { progress.new.workspace.session ≡ progress.old.workspace.session }
+    ensures counts { result ≡ Ok true → progress.new.answered ≡ progress.old.answered + 1 }
     ensures step { IfOk result (λ is_more. MatchBool is_more
         (Replies
-        (IsReplyOf B.store engine.old.spec workspace.old.settings workspace.new engine.new)
-        (left_of ahead.old (remaining_in R.remaining requests.old))
-        (left_of ahead.new (remaining_in R.remaining requests.new))
+        (IsReplyOf B.store engine.old.spec progress.old.workspace.session.settings
+        progress.new.workspace engine.new)
+        (left_of progress.old.ahead (remaining_in R.remaining requests.old))
+        (left_of progress.new.ahead (remaining_in R.remaining requests.new))
         (contents_of W.contents out.old) (contents_of W.contents out.new))
-        (EndsStep (left_of ahead.old (remaining_in R.remaining requests.old))
+        (EndsStep (left_of progress.old.ahead (remaining_in R.remaining requests.old))
         (remaining_in R.remaining requests.new)
         (contents_of W.contents out.old) (contents_of W.contents out.new))) }
     ensures fault { IfErr result (λ fault. StopsStep
-        (IsReplyOf B.store engine.old.spec workspace.old.settings workspace.new engine.new)
-        fault (left_of ahead.old (remaining_in R.remaining requests.old))
+        (IsReplyOf B.store engine.old.spec progress.old.workspace.session.settings
+        progress.new.workspace engine.new)
+        fault (left_of progress.old.ahead (remaining_in R.remaining requests.old))
         (contents_of W.contents out.old) (contents_of W.contents out.new)) }
     ensures read_reports { ReportsRead requests.old requests.new
-        (left_of ahead.old (remaining_in R.remaining requests.old)) result }
+        (left_of progress.old.ahead (remaining_in R.remaining requests.old)) result }
     ensures write_reports { ReportsServeWrite out.old out.new result }
     ensures told { MatchResult result
-        (λ _. Hears L.says (answered + 1) (L.told listener.old) (L.told listener.new))
+        (λ _. Hears L.says (progress.old.answered + 1) (L.told listener.old) (L.told listener.new))
         (λ _. L.told listener.new ≡ L.told listener.old) }
 {
     // The old store is dropped before memory is allocated for the next request, so that a new store
     // fits into the same memory.
-    workspace.renew();
-    match next_request(workspace.alloc, ahead, requests, out) {
-        Ok(Some(request)) => match reply(workspace, engine, &request, out) {
+    progress.workspace.renew();
+    let alloc = progress.workspace.session.alloc;
+    match next_request(alloc, &mut progress.ahead, requests, out) {
+        Ok(Some(request)) => match reply(&mut progress.workspace, engine, &request, out) {
             Ok(refusal) => {
-                let number = answered + 1;
-                tell(engine.checked(), number, &request, refusal, listener);
+                progress.answered += 1;
+                tell(
+                    engine.checked(),
+                    progress.answered,
+                    &request,
+                    refusal,
+                    listener,
+                );
                 Ok(true)
             }
             Err(RefusedWrite) => Err(ServeFault::Write { answered: 0 }),
@@ -255,12 +254,12 @@ fn reply<B: TermBank, W: Write>(
     out: &mut Output<'_, W>,
 ) -> Result<Option<Refusal>, RefusedWrite>
     ensures same { SameEngine engine.old engine.new }
-    ensures settings { workspace.new.settings ≡ workspace.old.settings }
+    ensures session { workspace.new.session ≡ workspace.old.session }
     ensures ok { OnOk result (IsRepliedTo
-        (IsReplyOf B.store engine.old.spec workspace.old.settings workspace.new engine.new)
+        (IsReplyOf B.store engine.old.spec workspace.old.session.settings workspace.new engine.new)
         request.now (contents_of W.contents out.old) (contents_of W.contents out.new)) }
     ensures err { OnErr result (IsPartlyRepliedTo
-        (IsReplyOf B.store engine.old.spec workspace.old.settings workspace.new engine.new)
+        (IsReplyOf B.store engine.old.spec workspace.old.session.settings workspace.new engine.new)
         request.now (contents_of W.contents out.old) (contents_of W.contents out.new)) }
     ensures reports { ReportsRefusal out.old out.new result }
 {
@@ -279,49 +278,32 @@ fn refusal_in(reply: &Result<Answered, EngineFault>) -> Option<Refusal> {
     }
 }
 
-/// Returns the response to a request, of which the first bytes were kept.
+/// Returns the response to a request, of which the first bytes were kept. The request is read in the
+/// store of the workspace.
 fn answer_kept<B: TermBank>(
     workspace: &mut Workspace,
     engine: &mut Engine<B>,
     request: &Request,
 ) -> Result<Answered, EngineFault>
     ensures same { SameEngine engine.old engine.new }
-    ensures settings { workspace.new.settings ≡ workspace.old.settings }
+    ensures session { workspace.new.session ≡ workspace.old.session }
     ensures answered { IfOk result (λ a. (line : List ℕ) → IsRead request.now line
-        → IsAnswer engine.old.spec workspace.old.settings.options.count
-        workspace.old.settings.form workspace.old.settings.options.steps line a.text.items) }
+        → IsAnswer engine.old.spec workspace.old.session.settings.options.count
+        workspace.old.session.settings.form workspace.old.session.settings.options.steps
+        line a.text.items) }
     ensures bound { IfOk result (λ a. a.refusal ≡ None
-        → KeepsLimit workspace.old.settings.depth engine.new.bound engine.new.waiting) }
+        → KeepsLimit workspace.old.session.settings.depth engine.new.bound engine.new.waiting) }
     ensures reason { IfErr result (HasReason B.store workspace.new engine.new) }
 {
     if request.is_lost {
-        Err(EngineFault::Memory)
-    } else {
-        answer_at(workspace, engine, &request.text)
+        return Err(EngineFault::Memory);
     }
-}
-
-/// Returns the response to a request, which is read in the store of a workspace.
-fn answer_at<B: TermBank>(
-    workspace: &mut Workspace,
-    engine: &mut Engine<B>,
-    request: &[u8],
-) -> Result<Answered, EngineFault>
-    ensures answered { IfOk result (IsAnswered engine.old.spec
-        workspace.old.settings.options.count workspace.old.settings.form workspace.old.settings.options.steps request.now) }
-    ensures same { SameEngine engine.old engine.new }
-    ensures settings { workspace.new.settings ≡ workspace.old.settings }
-    ensures bound { IfOk result (λ a. a.refusal ≡ None
-        → KeepsLimit workspace.old.settings.depth engine.new.bound engine.new.waiting) }
-    ensures reason { IfErr result (HasReason B.store workspace.new engine.new) }
-{
-    match workspace.take_bank(request.len()) {
+    match workspace.take_bank(request.text.len()) {
         Ok(mut own) => {
-            let alloc = workspace.alloc;
-            let found = answer(alloc, &mut *own, engine, request, workspace.settings);
+            let found = answer(workspace.session, &mut *own, engine, &request.text);
             workspace.give_back(own);
             found
         }
-        Err(_) => Err(EngineFault::Memory),
+        Err(AllocError) => Err(EngineFault::Memory),
     }
 }

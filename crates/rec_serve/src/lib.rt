@@ -5,8 +5,9 @@
 //! receives the requests that are rejected.
 //!
 //! ```text
-//! let settings = ServeSettings { options, depth: Some(10_000) };
-//! match run_serve(alloc, &mut spec, &mut requests, &mut out, settings, &mut Deaf)? {
+//! let settings = ServeSettings { options, form: ValueForm::Plain, depth: Some(10_000) };
+//! let session = Session { alloc, settings };
+//! match run_serve(session, &mut spec, &mut requests, &mut out, &mut Deaf)? {
 //!     Ending::Done => { /* one response for each request */ }
 //!     Ending::Refused(_) => { /* one error line, such as `!spec G` */ }
 //! }
@@ -20,13 +21,14 @@
 //! | `!memory`, `!cells`, `!depth` | out of memory, out of cells, call-depth limit reached |
 //!
 //! **Invariants.** The specified response to a request depends on the specification, the request,
-//! the step limit and `count` only. Lines as in the last row of the table are not specified
+//! the step limit, `count` and the form of values only. Lines as in the last row of the table are not specified
 //! responses: they report that a request ran out of a resource, and do not end the session. An
 //! error of a session is a [`ServeFault`]; it counts the responses that were written whole. All
 //! output is flushed before each read. A stream that has failed is not used again.
 //!
 //! **Cost.** Each request is read in a store without terms. This store is replaced once more than
-//! 65,536 bytes of requests were read in it. At most 16,777,217 bytes of a request are kept.
+//! 65,536 bytes of requests were read in it. At most 16,777,217 bytes of a request are kept. If the
+//! table of a value with annotations is written, its cells are copied to a store for it first.
 #![tactic(auto)]
 
 mod answers;
@@ -45,4 +47,4 @@ pub use answers::{Answered, answer};
 pub use conversation::{Deaf, Listener, converse};
 pub use ending::{Refusal, ServeFault};
 pub use runs::run_serve;
-pub use settings::ServeSettings;
+pub use settings::{ServeSettings, Session};

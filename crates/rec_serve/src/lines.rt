@@ -14,20 +14,23 @@ ghost use Rattle.std.specs.Prelude.{
   codes,
   length,
 };
-ghost use Rattle.rx_term.specs.Store.{tree_at};
+ghost use Rattle.rx_term.specs.Store.{noted, tree_at};
 ghost use Rattle.rx_term.specs.Tree.{annotations};
 ghost use Rattle.rx_text.specs.Canon.{canon};
-ghost use Rattle.rec_run.specs.EvaluatedLines.{HoldsValue, unsaid};
+ghost use Rattle.rx_table.specs.Table.{table};
+ghost use Rattle.rec_run.specs.EvaluatedLines.{unsaid};
 ghost use Rattle.rx_run.specs.Due.{steps_text};
 ghost use Rattle.rec_serve.specs.Answering.{refusal_line, shown};
+ghost use Rattle.rec_serve.specs.Inner.Values.{HasBareValue, IsBare, value_for};
 
 use crate::ending::Refusal;
-use crate::settings::ServeSettings;
+use crate::settings::{ServeSettings, Session};
 use rec_engine::Outcome;
 use rec_run::ValueForm;
-use rx_run::{put_numbered, write_steps};
-use rx_term::{Term, TermBank};
-use rx_text::{WriteFault, put, write_within};
+use rx_run::{MOST_CELLS, empty_bank, put_numbered, write_steps};
+use rx_table::{copy_term, write_table_to};
+use rx_term::{BankFault, Term, TermBank};
+use rx_text::{Output, WriteFault, put, write_within};
 use std::alloc::{AllocError, Global};
 
 /// Makes the response line of a rejected request.
@@ -46,105 +49,234 @@ pub(crate) fn refusal_text(alloc: Global, refusal: Refusal) -> Result<Vec<u8>, W
     Ok(text)
 }
 
-/// A value, and the number of steps that it took.
+/// The term of a request in its store, and its value, in the store of the engine, after some steps.
 #[derive(Clone, Copy, Drop)]
-struct Valued {
-    /// The value.
+struct Evaluated {
+    /// The term.
     term: Term,
+    /// The value, without the annotations of the term.
+    value: Term,
     /// The number of steps.
     steps: u64,
 }
 
-/// Appends the line of the outcome, in the store `bank`, of a term of the store `own`. The value
-/// has the annotations of the term.
-pub(crate) fn write_outcome<N: TermBank, B: TermBank>(
+/// Makes the line of the outcome, in the store `bank`, of a term of the store `own`. The value has
+/// the annotations of the term.
+pub(crate) fn outcome_text<N: TermBank, B: TermBank>(
+    session: Session,
     own: &N,
     term: Term,
     bank: &B,
     outcome: Outcome,
-    settings: ServeSettings,
-    text: &mut Vec<u8>,
-) -> Result<(), WriteFault>
+) -> Result<Vec<u8>, WriteFault>
     requires held { IsSome (tree_at (N.store own.now) term) }
-    requires value { HoldsValue (B.store bank.now) outcome }
-    ensures { OnOk result (IfSome (tree_at (N.store own.now) term)
-        (λ t. text.new.items ≡ text.old.items ++ shown (B.store bank.now) settings.options.count
-        settings.form settings.options.steps (annotations t) outcome ++ codes "\n")) }
+    requires value { HasBareValue (B.store bank.now) outcome }
+    ensures { IfOk result (λ text. IfSome (tree_at (N.store own.now) term)
+        (λ t. text.items ≡ shown (B.store bank.now) session.settings.options.count
+        session.settings.form session.settings.options.steps (annotations t) outcome
+        ++ codes "\n")) }
 {
+    let Session { alloc, settings } = session;
+    let mut text = Vec::new(alloc);
     match outcome {
         Outcome::Value { term: value, steps } => {
-            let mut notes = Vec::new(*text.allocator());
-            write_notes(own, term, &mut notes)?;
-            let valued = Valued { term: value, steps };
-            write_value(bank, valued, &notes, settings, text)?;
+            let evaluated = Evaluated { term, value, steps };
+            write_value(settings, own, bank, evaluated, &mut text)?;
         }
-        Outcome::Limit => put_numbered(text, b"!limit ", settings.options.steps)?,
+        Outcome::Limit => put_numbered(&mut text, b"!limit ", settings.options.steps)?,
     }
     text.push(b'\n')?;
-    Ok(())
+    Ok(text)
 }
 
-/// Appends a value with these annotations and its steps, in the form of values.
-fn write_value<B: TermBank>(
-    bank: &B,
-    valued: Valued,
-    notes: &[u8],
+/// Appends a value with the annotations of its term and its steps, in the form of values.
+fn write_value<N: TermBank, B: TermBank>(
     settings: ServeSettings,
+    own: &N,
+    bank: &B,
+    evaluated: Evaluated,
     text: &mut Vec<u8>,
 ) -> Result<(), WriteFault>
-    requires { IsSome (tree_at (B.store bank.now) valued.term) }
+    requires held { IsSome (tree_at (N.store own.now) evaluated.term) }
+    requires bare { IsBare (B.store bank.now) evaluated.value }
     ensures { OnOk result (text.new.items ≡ text.old.items
-        ++ unsaid (steps_text settings.options.count valued.steps)
-        (printed settings.form (canon (item_at (B.store bank.now) valued.term) ++ notes.now))) }
+        ++ unsaid (steps_text settings.options.count evaluated.steps) (printed settings.form
+        (value_for (N.store own.now) evaluated.term (B.store bank.now) evaluated.value))) }
 {
     let alloc = *text.allocator();
     match settings.form {
         ValueForm::Plain => {
-            rx_text::write(alloc, bank, valued.term, text)?;
-            put(text, notes)?;
-            write_steps(settings.options.count, valued.steps, text)?;
-            Ok(())
+            write_plain(own, bank, evaluated, text)?;
+            Ok(write_steps(settings.options.count, evaluated.steps, text)?)
         }
-        ValueForm::Within(most) => match bounded_text(alloc, bank, valued.term, notes, most) {
-            Ok(Some(found)) => {
+        ValueForm::Within(most) => match bounded_text(alloc, own, bank, evaluated, most)? {
+            Some(found) => {
                 put(text, &found)?;
-                write_steps(settings.options.count, valued.steps, text)?;
-                Ok(())
+                Ok(write_steps(settings.options.count, evaluated.steps, text)?)
             }
-            Ok(None) => {
-                put_numbered(text, b"!bytes ", most)?;
-                Ok(())
-            }
-            Err(AllocError) => Err(WriteFault::Memory),
+            None => Ok(put_numbered(text, b"!bytes ", most)?),
         },
+        ValueForm::Table => {
+            write_tabled(own, bank, evaluated, text)?;
+            Ok(write_steps(settings.options.count, evaluated.steps, text)?)
+        }
     }
 }
 
-/// Returns the text of a value with these annotations, or `None` if it has more than `most` bytes.
-fn bounded_text<B: TermBank>(
-    alloc: Global,
+/// Appends a value with the annotations of its term.
+fn write_plain<N: TermBank, B: TermBank>(
+    own: &N,
     bank: &B,
-    value: Term,
-    notes: &[u8],
-    most: u64,
-) -> Result<Option<Vec<u8>>, AllocError>
-    requires { IsSome (tree_at (B.store bank.now) value) }
-    ensures whole { IfOk result (λ found. IfSome found (λ text. text.items
-        ≡ canon (item_at (B.store bank.now) value) ++ notes.now)) }
-    ensures within { IfOk result (λ found. IfSome found (λ text. length text.items ≤ most)) }
-    ensures longer { IfOk result (λ found. found ≡ None
-        → most < length (canon (item_at (B.store bank.now) value) ++ notes.now)) }
+    evaluated: Evaluated,
+    text: &mut Vec<u8>,
+) -> Result<(), WriteFault>
+    requires held { IsSome (tree_at (N.store own.now) evaluated.term) }
+    requires bare { IsBare (B.store bank.now) evaluated.value }
+    ensures { OnOk result (text.new.items ≡ text.old.items ++ canon
+        (value_for (N.store own.now) evaluated.term (B.store bank.now) evaluated.value)) }
 {
+    let alloc = *text.allocator();
+    rx_text::write(alloc, bank, evaluated.value, text)?;
+    write_notes(own, evaluated.term, text)
+}
+
+/// Returns the text of a value with the annotations of its term, or `None` if it has more than
+/// `most` bytes.
+fn bounded_text<N: TermBank, B: TermBank>(
+    alloc: Global,
+    own: &N,
+    bank: &B,
+    evaluated: Evaluated,
+    most: u64,
+) -> Result<Option<Vec<u8>>, WriteFault>
+    requires held { IsSome (tree_at (N.store own.now) evaluated.term) }
+    requires bare { IsBare (B.store bank.now) evaluated.value }
+    ensures whole { IfOk result (λ found. IfSome found (λ text. text.items ≡ canon
+        (value_for (N.store own.now) evaluated.term (B.store bank.now) evaluated.value))) }
+    ensures within { IfOk result (λ found. IfSome found (λ text. length text.items ≤ most)) }
+    ensures longer { IfOk result (λ found. found ≡ None → most < length (canon
+        (value_for (N.store own.now) evaluated.term (B.store bank.now) evaluated.value))) }
+{
+    let mut notes = Vec::new(alloc);
+    write_notes(own, evaluated.term, &mut notes)?;
     let Some(left) = (most as usize).checked_sub(notes.len()) else {
         return Ok(None);
     };
-    match write_within(alloc, bank, value, left)? {
-        Some(mut text) => {
-            text.extend_from_slice(notes)?;
+    match write_within(alloc, bank, evaluated.value, left) {
+        Ok(Some(mut text)) => {
+            put(&mut text, &notes)?;
             Ok(Some(text))
         }
-        None => Ok(None),
+        Ok(None) => Ok(None),
+        Err(AllocError) => Err(WriteFault::Memory),
     }
+}
+
+/// Appends the table of a value with the annotations of its term.
+fn write_tabled<N: TermBank, B: TermBank>(
+    own: &N,
+    bank: &B,
+    evaluated: Evaluated,
+    text: &mut Vec<u8>,
+) -> Result<(), WriteFault>
+    requires held { IsSome (tree_at (N.store own.now) evaluated.term) }
+    requires bare { IsBare (B.store bank.now) evaluated.value }
+    ensures { OnOk result (text.new.items ≡ text.old.items ++ canon (table
+        (value_for (N.store own.now) evaluated.term (B.store bank.now) evaluated.value))) }
+{
+    let alloc = *text.allocator();
+    match own.anns(evaluated.term) {
+        None => write_table(alloc, bank, evaluated.value, text),
+        Some(notes) => {
+            let given = Noted {
+                value: evaluated.value,
+                notes,
+            };
+            write_noted_table(own, bank, given, text)
+        }
+    }
+}
+
+/// Appends the table of a term.
+fn write_table<B: TermBank>(
+    alloc: Global,
+    bank: &B,
+    t: Term,
+    text: &mut Vec<u8>,
+) -> Result<(), WriteFault>
+    requires { IsSome (tree_at (B.store bank.now) t) }
+    ensures { OnOk result (text.new.items ≡ text.old.items
+        ++ canon (table (item_at (B.store bank.now) t))) }
+{
+    let mut out = Output::new(text);
+    write_table_to(alloc, bank, t, &mut out)
+}
+
+/// A value in the store of an engine, and the list of its annotations in another store.
+#[derive(Clone, Copy, Drop)]
+struct Noted {
+    /// The value.
+    value: Term,
+    /// The list of its annotations.
+    notes: Term,
+}
+
+/// Appends the table of a value with annotations, which is made in a store for it.
+fn write_noted_table<N: TermBank, B: TermBank>(
+    own: &N,
+    bank: &B,
+    given: Noted,
+    text: &mut Vec<u8>,
+) -> Result<(), WriteFault>
+    requires { IsSome (noted (tree_at (B.store bank.now) given.value)
+        (tree_at (N.store own.now) given.notes)) }
+    ensures { OnOk result (IfSome (noted (tree_at (B.store bank.now) given.value)
+        (tree_at (N.store own.now) given.notes))
+        (λ u. text.new.items ≡ text.old.items ++ canon (table u))) }
+{
+    match empty_bank(*text.allocator(), MOST_CELLS) {
+        Ok(store) => write_table_in(own, bank, given, store, text),
+        Err(_) => Err(WriteFault::Memory),
+    }
+}
+
+/// Appends the table of a value with annotations, which is made in the store `store`.
+fn write_table_in<N: TermBank, B: TermBank, C: TermBank + Drop>(
+    own: &N,
+    bank: &B,
+    given: Noted,
+    mut store: C,
+    text: &mut Vec<u8>,
+) -> Result<(), WriteFault>
+    requires { IsSome (noted (tree_at (B.store bank.now) given.value)
+        (tree_at (N.store own.now) given.notes)) }
+    ensures { OnOk result (IfSome (noted (tree_at (B.store bank.now) given.value)
+        (tree_at (N.store own.now) given.notes))
+        (λ u. text.new.items ≡ text.old.items ++ canon (table u))) }
+{
+    let alloc = *text.allocator();
+    match annotate(alloc, own, bank, given, &mut store) {
+        Ok(t) => write_table(alloc, &store, t, text),
+        Err(_) => Err(WriteFault::Memory),
+    }
+}
+
+/// Makes, in the store `store`, a value with its annotations.
+fn annotate<N: TermBank, B: TermBank, C: TermBank>(
+    alloc: Global,
+    own: &N,
+    bank: &B,
+    given: Noted,
+    store: &mut C,
+) -> Result<Term, BankFault>
+    requires { IsSome (noted (tree_at (B.store bank.now) given.value)
+        (tree_at (N.store own.now) given.notes)) }
+    ensures { IfOk result (λ r. tree_at (C.store store.new) r
+        ≡ noted (tree_at (B.store bank.now) given.value) (tree_at (N.store own.now) given.notes)) }
+{
+    let value = copy_term(alloc, bank, given.value, store)?;
+    let notes = copy_term(alloc, own, given.notes, store)?;
+    store.annotated(value, notes)
 }
 
 /// Appends the annotations of a term in braces, if it has any.

@@ -1,11 +1,14 @@
 //! Whole runs: a specification, and a session over it.
 
-ghost use Rattle.std.specs.Prelude.{◌≡◌, ℕ, IfErr, IfOk, IfSome, OnErr, OnOk};
+ghost use Rattle.std.specs.Prelude.{◌≡◌, IfErr, IfOk, IfSome, OnErr, OnOk};
 ghost use Rattle.std.specs.Io.KnownBytes.{IsAtEnd};
 ghost use Rattle.rx_text.specs.Input.{remaining_in};
 ghost use Rattle.rx_text.specs.Output.{ReportsRefusal, Writes, WritesFront, contents_of};
+ghost use Rattle.rx_shared.specs.State.{store_of};
+ghost use Rattle.rec_engine.specs.Engine.{RemembersNothing};
 ghost use Rattle.rec_syntax.specs.Syntax.{Spec};
 ghost use Rattle.rec_sorts.specs.SpecRules.{Good, Verdict};
+ghost use Rattle.rec_run.specs.EvaluatedLines.{engine_options};
 ghost use Rattle.rec_run.specs.GivenTerms.{IsRefusal, OnGoodSpec, OnRefusedSpec};
 ghost use Rattle.rec_run.specs.Reading.{IsSpecReading};
 ghost use Rattle.rx_run.specs.Refusals.{refusal_due};
@@ -27,14 +30,14 @@ ghost use Rattle.rec_serve.specs.Replies.{
 
 use crate::conversation::{Listener, converse_from};
 use crate::ending::ServeFault;
-use crate::settings::ServeSettings;
+use crate::settings::Session;
+use rec_engine::Engine;
 use rec_run::{engine_over, read_spec_text_from};
 use rec_sorts::Checked;
 use rx_run::{Ending, Reading, Refusal, RunFault, write_refusal_to};
 use rx_shared::SharedBank;
-use rx_term::TermBank;
 use rx_text::{Input, Output, RefusedWrite};
-use std::alloc::Global;
+use std::alloc::AllocError;
 use std::io::{Read, Write};
 
 /// Reads a specification. If it is accepted, answers the requests of a stream with one response
@@ -43,18 +46,19 @@ use std::io::{Read, Write};
 /// request that reaches it has the response `!depth`. The listener receives each request that is
 /// rejected.
 pub fn run_serve<S: Read, R: Read, W: Write, L: Listener>(
-    alloc: Global,
+    session: Session,
     spec: &mut S,
     requests: &mut R,
     out: &mut W,
-    settings: ServeSettings,
     listener: &mut L,
 ) -> Result<Ending, ServeFault>
-    ensures ends { IfOk result (λ ending. ConcludesServing settings.options.count
-        settings.form settings.options.steps settings.depth (S.remaining spec.old) (R.remaining requests.old)
+    ensures ends { IfOk result (λ ending. ConcludesServing session.settings.options.count
+        session.settings.form session.settings.options.steps session.settings.depth
+        (S.remaining spec.old) (R.remaining requests.old)
         ending (W.contents out.old) (W.contents out.new)) }
-    ensures fault { IfErr result (λ fault. BreaksServing settings.options.count
-        settings.form settings.options.steps settings.depth (S.remaining spec.old) (R.remaining requests.old)
+    ensures fault { IfErr result (λ fault. BreaksServing session.settings.options.count
+        session.settings.form session.settings.options.steps session.settings.depth
+        (S.remaining spec.old) (R.remaining requests.old)
         fault (W.contents out.old) (W.contents out.new)) }
     ensures spec_read { OnOk result (IsReadOut (S.remaining spec.old) (S.remaining spec.new)) }
     ensures requests_read { OnOk result (OnGoodSpec (S.remaining spec.old)
@@ -64,33 +68,25 @@ pub fn run_serve<S: Read, R: Read, W: Write, L: Listener>(
     let mut spec = Input::new(spec);
     let mut input = Input::new(requests);
     let mut output = Output::new(out);
-    serve_from(
-        alloc,
-        &mut spec,
-        settings,
-        &mut input,
-        &mut output,
-        listener,
-    )
+    serve_from(session, &mut spec, &mut input, &mut output, listener)
 }
 
 /// Runs a session from two inputs and to an output, as `run_serve` does. A stream that has failed
 /// is not used again.
 fn serve_from<S: Read, R: Read, W: Write, L: Listener>(
-    alloc: Global,
+    session: Session,
     spec: &mut Input<'_, S>,
-    settings: ServeSettings,
     requests: &mut Input<'_, R>,
     out: &mut Output<'_, W>,
     listener: &mut L,
 ) -> Result<Ending, ServeFault>
-    ensures ends { IfOk result (λ ending. ConcludesServing settings.options.count
-        settings.form settings.options.steps settings.depth (remaining_in S.remaining spec.old)
-        (remaining_in R.remaining requests.old) ending
+    ensures ends { IfOk result (λ ending. ConcludesServing session.settings.options.count
+        session.settings.form session.settings.options.steps session.settings.depth
+        (remaining_in S.remaining spec.old) (remaining_in R.remaining requests.old) ending
         (contents_of W.contents out.old) (contents_of W.contents out.new)) }
-    ensures fault { IfErr result (λ fault. BreaksServing settings.options.count
-        settings.form settings.options.steps settings.depth (remaining_in S.remaining spec.old)
-        (remaining_in R.remaining requests.old) fault
+    ensures fault { IfErr result (λ fault. BreaksServing session.settings.options.count
+        session.settings.form session.settings.options.steps session.settings.depth
+        (remaining_in S.remaining spec.old) (remaining_in R.remaining requests.old) fault
         (contents_of W.contents out.old) (contents_of W.contents out.new)) }
     ensures spec_read { OnOk result (IsReadOut (remaining_in S.remaining spec.old)
         (remaining_in S.remaining spec.new)) }
@@ -103,8 +99,8 @@ fn serve_from<S: Read, R: Read, W: Write, L: Listener>(
         (remaining_in R.remaining requests.old) result }
     ensures write_reports { ReportsServeWrite out.old out.new result }
 {
-    match read_spec_text_from(alloc, spec) {
-        Ok(reading) => serve_reading(alloc, reading, settings, requests, out, listener),
+    match read_spec_text_from(session.alloc, spec) {
+        Ok(reading) => serve_reading(session, reading, requests, out, listener),
         Err(fault) => Err(unread(fault)),
     }
 }
@@ -126,20 +122,21 @@ fn unread(fault: RunFault) -> ServeFault
 /// Answers the requests if the specification is accepted, and writes its error line if it is
 /// rejected.
 fn serve_reading<R: Read, W: Write, L: Listener>(
-    alloc: Global,
+    session: Session,
     reading: Reading<Checked>,
-    settings: ServeSettings,
     requests: &mut Input<'_, R>,
     out: &mut Output<'_, W>,
     listener: &mut L,
 ) -> Result<Ending, ServeFault>
     ensures ends { IfOk result (λ ending. (v : Verdict) → IsSpecReading reading v
-        → ConcludesAfter settings.options.count settings.form settings.options.steps settings.depth v
+        → ConcludesAfter session.settings.options.count session.settings.form
+        session.settings.options.steps session.settings.depth v
         (remaining_in R.remaining requests.old) ending
         (contents_of W.contents out.old) (contents_of W.contents out.new)) }
     ensures fault { IfErr result (λ fault. (v : Verdict) → IsSpecReading reading v
-        → BreaksAfter settings.options.count settings.form settings.options.steps
-        settings.depth v (remaining_in R.remaining requests.old) fault
+        → BreaksAfter session.settings.options.count session.settings.form
+        session.settings.options.steps session.settings.depth v
+        (remaining_in R.remaining requests.old) fault
         (contents_of W.contents out.old) (contents_of W.contents out.new)) }
     ensures requests_read { OnOk result ((y : Spec) → IsSpecReading reading (Good y)
         → IsAtEnd (remaining_in R.remaining requests.new)) }
@@ -155,7 +152,7 @@ fn serve_reading<R: Read, W: Write, L: Listener>(
             Err(RefusedWrite) => Err(ServeFault::Write { answered: 0 }),
         },
         Reading::Good(checked) => {
-            match serve(alloc, checked, settings, requests, out, listener) {
+            match serve(session, checked, requests, out, listener) {
                 Ok(()) => Ok(Ending::Done),
                 Err(fault) => Err(fault),
             }
@@ -175,65 +172,49 @@ fn refuse<W: Write>(refusal: Refusal, out: &mut Output<'_, W>) -> Result<(), Ref
 
 /// Answers the requests with an accepted specification.
 fn serve<R: Read, W: Write, L: Listener>(
-    alloc: Global,
+    session: Session,
     checked: Checked,
-    settings: ServeSettings,
     requests: &mut Input<'_, R>,
     out: &mut Output<'_, W>,
     listener: &mut L,
 ) -> Result<(), ServeFault>
     ensures output { OnOk result (IfSome (remaining_in R.remaining requests.old)
-        (λ bytes. Converses checked.spec settings.options.count settings.form settings.options.steps
-        settings.depth bytes (contents_of W.contents out.old)
+        (λ bytes. Converses checked.spec session.settings.options.count session.settings.form
+        session.settings.options.steps session.settings.depth bytes (contents_of W.contents out.old)
         (contents_of W.contents out.new))) }
     ensures fault { IfErr result (λ fault. IfSome (remaining_in R.remaining requests.old)
-        (λ bytes. BreaksOff checked.spec settings.options.count settings.form settings.options.steps
-        settings.depth bytes fault (contents_of W.contents out.old)
-        (contents_of W.contents out.new))) }
+        (λ bytes. BreaksOff checked.spec session.settings.options.count session.settings.form
+        session.settings.options.steps session.settings.depth bytes fault
+        (contents_of W.contents out.old) (contents_of W.contents out.new))) }
     ensures requests_read { OnOk result (IsAtEnd (remaining_in R.remaining requests.new)) }
     ensures read_reports { ReportsServeRead requests.old requests.new
         (remaining_in R.remaining requests.old) result }
     ensures write_reports { ReportsServeWrite out.old out.new result }
 {
-    match SharedBank::new(alloc, settings.options.cells) {
-        Ok(bank) => serve_over(alloc, bank, checked, settings, requests, out, listener),
-        Err(_) => Err(ServeFault::Memory),
-    }
-}
-
-/// Answers the requests with an accepted specification over an empty store with the capacity of the
-/// settings.
-fn serve_over<B: TermBank + Drop, R: Read, W: Write, L: Listener>(
-    alloc: Global,
-    bank: B,
-    checked: Checked,
-    settings: ServeSettings,
-    requests: &mut Input<'_, R>,
-    out: &mut Output<'_, W>,
-    listener: &mut L,
-) -> Result<(), ServeFault>
-    requires unrooted { (t : ℕ) → (B.store bank).roots t ≡ 0 }
-    requires limit { (B.store bank).cap ≡ settings.options.cells }
-    ensures output { OnOk result (IfSome (remaining_in R.remaining requests.old)
-        (λ bytes. Converses checked.spec settings.options.count settings.form settings.options.steps
-        settings.depth bytes (contents_of W.contents out.old)
-        (contents_of W.contents out.new))) }
-    ensures fault { IfErr result (λ fault. IfSome (remaining_in R.remaining requests.old)
-        (λ bytes. BreaksOff checked.spec settings.options.count settings.form settings.options.steps
-        settings.depth bytes fault (contents_of W.contents out.old)
-        (contents_of W.contents out.new))) }
-    ensures requests_read { OnOk result (IsAtEnd (remaining_in R.remaining requests.new)) }
-    ensures read_reports { ReportsServeRead requests.old requests.new
-        (remaining_in R.remaining requests.old) result }
-    ensures write_reports { ReportsServeWrite out.old out.new result }
-{
-    match engine_over(alloc, checked, bank, None, settings.options) {
+    match engine_for(session, checked) {
         Ok(mut engine) => {
-            let end = converse_from(alloc, &mut engine, settings, requests, out, listener);
+            let end = converse_from(session, &mut engine, requests, out, listener);
             // By a call: the end of the block would drop each part of an engine here.
             drop(engine);
             end
         }
-        Err(_) => Err(ServeFault::Memory),
+        Err(AllocError) => Err(ServeFault::Memory),
+    }
+}
+
+/// Makes the engine of a session, over an empty store with the capacity of the settings.
+fn engine_for(session: Session, checked: Checked) -> Result<Engine<SharedBank>, AllocError>
+    ensures spec { IfOk result (λ e. e.spec ≡ checked.spec) }
+    ensures options { IfOk result (λ e. e.options ≡ engine_options session.settings.options) }
+    ensures memo { IfOk result (λ e. RemembersNothing session.settings.options.memo e.memo) }
+    ensures limit { IfOk result (λ e. (store_of e.bank).cap ≡ session.settings.options.cells) }
+{
+    let Session { alloc, settings } = session;
+    let Ok(bank) = SharedBank::new(alloc, settings.options.cells) else {
+        return Err(AllocError);
+    };
+    match engine_over(alloc, checked, bank, None, settings.options) {
+        Ok(engine) => Ok(engine),
+        Err(_) => Err(AllocError),
     }
 }

@@ -1,6 +1,7 @@
 //! The settings of a session.
 
 use rec_run::{RunOptions, ValueForm};
+use std::alloc::Global;
 
 /// The settings of a session: the limits of its requests and the form of its responses.
 #[derive(Clone, Copy, Debug, Drop)]
@@ -11,4 +12,13 @@ pub struct ServeSettings {
     pub form: ValueForm,
     /// The call-depth limit of a request in frames. With `None`, only memory limits the depth.
     pub depth: Option<u32>,
+}
+
+/// The allocator and the settings of a session.
+#[derive(Clone, Copy, Drop)]
+pub struct Session {
+    /// The allocator.
+    pub alloc: Global,
+    /// The settings.
+    pub settings: ServeSettings,
 }

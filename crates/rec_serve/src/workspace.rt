@@ -5,7 +5,7 @@ ghost use Rattle.std.specs.Option.{ForSome};
 ghost use Rattle.rx_shared.specs.State.{store_of};
 ghost use Rattle.rec_serve.specs.Inner.Banks.{IsEmptied, IsUnrooted};
 
-use crate::settings::ServeSettings;
+use crate::settings::Session;
 use rx_shared::SharedBank;
 use rx_term::TermBank;
 use std::alloc::{AllocError, Global};
@@ -13,33 +13,30 @@ use std::alloc::{AllocError, Global};
 /// The number of bytes of requests after which the store is replaced.
 const MOST_BYTES: usize = 65_536;
 
-/// An allocator, the settings of a session, and a store in which requests are read. The store has
-/// no terms of earlier requests while a request is read. A new store replaces it after some bytes,
-/// so that names of requests are not kept forever.
+/// A session, and a store in which its requests are read. The store has no terms of earlier
+/// requests while a request is read. A new store replaces it after some bytes, so that names of
+/// requests are not kept forever.
 #[derive(Drop)]
 pub(crate) struct Workspace {
-    /// The allocator.
-    pub(crate) alloc: Global,
-    /// The settings of the session.
-    pub(crate) settings: ServeSettings,
+    /// The allocator and the settings.
+    pub(crate) session: Session,
     /// The store in which the last request was read.
     bank: Option<Box<SharedBank>>,
     /// The number of bytes that were read in this store.
     bytes: usize,
     ghost unrooted: { ForSome bank (λ b. IsUnrooted (store_of b.value)) },
-    ghost limit: { ForSome bank (λ b. (store_of b.value).cap ≡ settings.options.cells) },
+    ghost limit: { ForSome bank (λ b. (store_of b.value).cap ≡ session.settings.options.cells) },
 }
 
 impl Workspace {
     ghost use Rattle.std.specs.Prelude.{None, Some};
 
     /// Makes a workspace without a store.
-    pub(crate) fn new(alloc: Global, settings: ServeSettings) -> Workspace
-        ensures { result.settings ≡ settings }
+    pub(crate) fn new(session: Session) -> Workspace
+        ensures { result.session ≡ session }
     {
         Workspace {
-            alloc,
-            settings,
+            session,
             bank: None,
             bytes: 0,
         }
@@ -47,7 +44,7 @@ impl Workspace {
 
     /// Drops the store if enough bytes were read in it.
     pub(crate) fn renew(&mut self)
-        ensures { self.new.settings ≡ self.old.settings }
+        ensures { self.new.session ≡ self.old.session }
     {
         if self.bytes > MOST_BYTES {
             self.bank = None;
@@ -59,8 +56,8 @@ impl Workspace {
     /// bytes.
     pub(crate) fn take_bank(&mut self, bytes: usize) -> Result<Box<SharedBank>, AllocError>
         ensures empty { IfOk result
-            (λ b. IsEmptied (store_of b.value) self.old.settings.options.cells) }
-        ensures same { self.new.settings ≡ self.old.settings }
+            (λ b. IsEmptied (store_of b.value) self.old.session.settings.options.cells) }
+        ensures same { self.new.session ≡ self.old.session }
     {
         self.bytes = self.bytes.saturating_add(bytes);
         match self.bank.take() {
@@ -68,16 +65,16 @@ impl Workspace {
                 bank.reclaim(&[]);
                 Ok(bank)
             }
-            None => new_bank(self.alloc, self.settings.options.cells),
+            None => new_bank(self.session.alloc, self.session.settings.options.cells),
         }
     }
 
     /// Takes the store of a request back, for the next one.
     pub(crate) fn give_back(&mut self, bank: Box<SharedBank>)
         requires unrooted { IsUnrooted (store_of bank.value) }
-        requires limit { (store_of bank.value).cap ≡ self.old.settings.options.cells }
+        requires limit { (store_of bank.value).cap ≡ self.old.session.settings.options.cells }
         ensures held { self.new.bank ≡ Some bank }
-        ensures same { self.new.settings ≡ self.old.settings }
+        ensures same { self.new.session ≡ self.old.session }
     {
         self.bank = Some(bank);
     }

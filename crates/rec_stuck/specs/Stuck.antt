@@ -10,8 +10,6 @@ use Rattle.rx_term.specs.Tree.{Tree, Trees, Appl, Items, none, more, annotated, 
 use Rattle.rx_text.specs.Canon.{canon}
 use Rattle.rec_syntax.specs.Syntax.{Declaration, Rule, Spec}
 use Rattle.rec_sorts.specs.Binding.{binds}
-use Rattle.rec_run.specs.Reports as Reports
-use Rattle.rec_run.specs.Run.{Texts}
 use Rattle.rec_trace.specs.Lines.{cut}
 use Rattle.rec_trace.specs.declared.lines.Spot.{Spot}
 use Rattle.rec_trace.specs.Lines.{rule_spot}
@@ -81,8 +79,3 @@ stuck_line source y u = codes "stuck: " ++ cut (Some 60) (canon (bare_of u)) ++ 
 -- stuck_text source y v: the lines of the calls in a value
 abbrev pub stuck_text : List ℕ → Spec → Tree → List ℕ
 stuck_text source y v = flat_map (stuck_line source y) (stuck_calls y v)
-
--- Tells n texts old new: `new` is `old`, followed by the lines of the calls in the values of a
--- run's texts, if their readers describe them
-abbrev pub Tells : ℕ → Option Texts → List ℕ → List ℕ → Type 0
-Tells n texts old new = Reports.Tells stuck_text n texts old new

@@ -46,7 +46,7 @@ pub(crate) fn fitting_spots<B: TermBank>(
     push_items(bank, bank.args(call.term), &mut arguments)?;
     let mut found = Vec::new(alloc);
     let mut at = matcher.heads[call.symbol as usize];
-    while let Some(rule) = next_rule(alloc, bank, matcher, call, at, &mut arguments)? {
+    while let Some(rule) = next_rule(bank, matcher, call, at, &mut arguments)? {
         found.push(spots[rule as usize])?;
         at = matcher.sides[rule as usize].next;
     }
@@ -55,7 +55,6 @@ pub(crate) fn fitting_spots<B: TermBank>(
 
 /// Returns the first rule, from number `at` on, that matches a call with these arguments.
 fn next_rule<B: TermBank>(
-    alloc: Global,
     bank: &B,
     matcher: &Matcher,
     call: Call,
@@ -70,6 +69,7 @@ fn next_rule<B: TermBank>(
     ensures found { IfOk result (λ found. (bind : List Term)
         × FindsFor (B.store bank.now) matcher.now at arguments.old.items bind found) }
 {
+    let alloc = *arguments.allocator();
     let mut pending = Vec::new(alloc);
     let mut bind = Vec::new(alloc);
     let found = matcher.find(

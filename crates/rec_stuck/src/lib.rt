@@ -1,8 +1,8 @@
 //! Reports the stuck calls in the results of a run.
 //!
 //! A stuck call is an application of an operator in a normal form: no rule applies to it.
-//! [`run_stuck`] runs a specification like `rec_run::run_given`, with a [`StuckReport`] as the
-//! reporter of its observer. The report has a line for each different call in each value:
+//! A [`StuckReport`] is a reporter for the observer of `rec_run::run_given`. It has a line for each
+//! different call in each value:
 //!
 //! ```text
 //! stuck: head(nil): no rule matches
@@ -14,7 +14,7 @@
 //! ```text
 //! let reporter = StuckReport::new(alloc);
 //! let mut observer = Observer { watch: Unwatched, profiler: Unwatched, reporter };
-//! let report = run_stuck(alloc, &mut spec, &mut NoTerms, &mut out, settings, &mut observer)?;
+//! let report = run_given(alloc, &mut spec, &mut NoTerms, &mut out, settings, &mut observer)?;
 //! // observer.reporter.lines: the lines of all values
 //! ```
 //!
@@ -22,7 +22,8 @@
 //! text has no annotations of its own and at most 60 bytes. The reason has the locations of all
 //! rules whose left-hand sides match the call, or states that there are none.
 //!
-//! **Invariants.** The report does not change the output of the run; `specs/Stuck.antt` defines it.
+//! **Invariants.** The report does not change the output of the run. `specs/Stuck.antt` defines it:
+//! the clause `told` of `run_given` is about the text `stuck_text` of each value.
 //!
 //! **Cost.** Each different application in a value is visited once. For each call, the rules of its
 //! symbol are tried in order. The only errors are those of the run.
@@ -33,7 +34,5 @@ mod fitting;
 mod reasons;
 mod report;
 mod short_text;
-mod whole_runs;
 
 pub use report::StuckReport;
-pub use whole_runs::run_stuck;

@@ -1,4 +1,5 @@
 -- Definitions that only proofs and contracts inside this crate use.
+pub mod Calls
 pub mod Saving
 pub mod Sides
 pub mod Spreading

@@ -9,15 +9,14 @@ ghost use Rattle.rx_term.specs.Steps.{Keeps};
 ghost use Rattle.rx_term.specs.Walks.{AllHeld};
 ghost use Rattle.rec_sorts.specs.Lookup.{symbols};
 ghost use Rattle.rec_sorts.specs.Numbering.{arity_of};
-ghost use Rattle.rec_engine.specs.Engine.{SameEngine};
 ghost use Rattle.rec_engine.specs.Inner.Made.{IsApplied};
+ghost use Rattle.rec_trace.specs.Inner.Calls.{Uses};
 ghost use Rattle.rec_trace.specs.Inner.Turns.{IsGroundRow};
 ghost use Rattle.rec_engine.specs.Lent.{IsAppliedOn};
 ghost use Rattle.rec_trace.specs.Rows.{Lowers};
 ghost use Rattle.rec_sorts.specs.Laws.{Every};
 ghost use Rattle.rec_syntax.specs.Syntax.{Spec};
 ghost use Rattle.rec_engine.specs.declared.engine.errors.EngineFault.TheVariants.{Memory};
-ghost use Rattle.rec_trace.specs.Faults.{RoomOnlyIfFull};
 
 use rec_engine::{Engine, EngineFault};
 use rec_sorts::{Letter, Meaning};
@@ -173,7 +172,7 @@ impl Row {
         requires symbol { symbol < length (symbols engine.old.spec) }
         requires arity { arity_of engine.old.spec symbol ≡ count }
         requires count { count ≤ length self.old.values.items }
-        ensures same { SameEngine engine.old engine.new }
+        ensures uses { Uses B.store engine.old engine.new result }
         ensures keeps { Keeps (B.store engine.old.bank) (B.store engine.new.bank)
             (take (length self.old.values.items - count) self.old.values.items) }
         ensures applied { IfOk result (λ u. IsAppliedOn engine.old.spec
@@ -181,7 +180,6 @@ impl Row {
             self.old.values.items self.new.values.items) }
         ensures steps { self.new.steps ≡ self.old.steps }
         ensures low { OnOk result (Lowers self.old self.new) }
-        ensures room { RoomOnlyIfFull (B.store engine.new.bank) engine.new.memo result }
     {
         let rest = self.values.len() - count as usize;
         self.lower(rest);

@@ -5,12 +5,12 @@ ghost use Rattle.rx_term.specs.Store.{tree_at};
 ghost use Rattle.rx_term.specs.Walks.{AllHeld};
 ghost use Rattle.rx_term.specs.declared.Term.{Term as Reference};
 ghost use Rattle.rec_engine.specs.Engine.{SameEngine};
-ghost use Rattle.rec_trace.specs.Lists.{IsKept, IsSaved, Stays, listed};
+ghost use Rattle.rec_trace.specs.Inner.Calls.{Relists, Uses};
+ghost use Rattle.rec_trace.specs.Lists.{IsKept, Stays, listed};
 ghost use Rattle.rec_trace.specs.Lists.{protected_instead};
-ghost use Rattle.rec_trace.specs.Inner.Saving.{AreSaved, HasAll, KeepsLowest, KeepsSaved, Leaves};
-ghost use Rattle.rec_trace.specs.Inner.Saving.{Lengthens, Saves, Shortens};
+ghost use Rattle.rec_trace.specs.Inner.Saving.{AreSaved, CanSave, HasAll, KeepsLowest, KeepsSaved};
+ghost use Rattle.rec_trace.specs.Inner.Saving.{Leaves, Lengthens, Saves, Shortens};
 ghost use Rattle.rec_engine.specs.declared.engine.errors.EngineFault.TheVariants.{Memory};
-ghost use Rattle.rec_trace.specs.Faults.{RoomOnlyIfFull};
 
 use crate::row::Row;
 use rec_engine::{Engine, EngineFault};
@@ -49,11 +49,10 @@ fn protect_instead<B: TermBank>(
 impl Saved {
     /// Makes an empty list of saved values.
     pub(crate) fn none<B: TermBank>(engine: &mut Engine<B>) -> Result<Saved, EngineFault>
-        ensures same { SameEngine engine.old engine.new }
+        ensures uses { Uses B.store engine.old engine.new result }
         ensures kept { IfOk result (λ s. IsKept (B.store engine.new.bank) s.list) }
         ensures none { IfOk result (λ s. listed (B.store engine.new.bank) s.list ≡ []) }
         ensures count { IfOk result (λ s. s.count ≡ 0) }
-        ensures room { RoomOnlyIfFull (B.store engine.new.bank) engine.new.memo result }
     {
         let list = engine.nil()?;
         match engine.protect(list) {
@@ -104,14 +103,12 @@ impl Saved {
         requires held { AllHeld (B.store engine.old.bank) values.old.items }
         requires saved { AreSaved (B.store engine.old.bank) values.old.items self.old }
         requires count { count ≤ length values.old.items }
-        ensures same { SameEngine engine.old engine.new }
-        ensures stays { Stays (B.store engine.old.bank) (B.store engine.new.bank) self.old.list
-            self.new.list }
+        ensures relists { Relists B.store engine.old engine.new self.old.list self.new.list
+            result }
         ensures lengthens { OnOk result (Lengthens (B.store engine.old.bank)
             (B.store engine.new.bank) values.old.items values.new.items self.new count) }
         ensures refused { OnErr result (KeepsLowest (B.store engine.old.bank)
             (B.store engine.new.bank) values.old.items values.new.items self.old self.new) }
-        ensures room { RoomOnlyIfFull (B.store engine.new.bank) engine.new.memo result }
     {
         'values: while self.count < count {
             let list = engine.hold_on(values, self.count, self.list)?;
@@ -129,18 +126,14 @@ impl Saved {
         row: &mut Row,
         count: usize,
     ) -> Result<(), EngineFault>
-        requires saved { IsSaved (B.store engine.old.bank) row.old self.old }
-        requires held { AllHeld (B.store engine.old.bank) row.old.values.items }
-        requires count { count ≤ length row.old.values.items }
-        ensures same { SameEngine engine.old engine.new }
-        ensures stays { Stays (B.store engine.old.bank) (B.store engine.new.bank) self.old.list
-            self.new.list }
+        requires can { CanSave (B.store engine.old.bank) row.old self.old count }
+        ensures relists { Relists B.store engine.old engine.new self.old.list self.new.list
+            result }
         ensures saves { OnOk result (Saves (B.store engine.old.bank) (B.store engine.new.bank)
             row.old row.new self.new count) }
         ensures keeps { KeepsSaved (B.store engine.old.bank) (B.store engine.new.bank)
             row.old row.new self.new }
         ensures low { OnErr result (row.new.low ≡ row.old.low) }
-        ensures room { RoomOnlyIfFull (B.store engine.new.bank) engine.new.memo result }
     {
         self.shorten(engine, row.low)?;
         self.lengthen(engine, &mut row.values, count)?;
@@ -156,17 +149,13 @@ impl Saved {
         row: &mut Row,
         count: usize,
     ) -> Result<(), EngineFault>
-        requires saved { IsSaved (B.store engine.old.bank) row.old self.old }
-        requires held { AllHeld (B.store engine.old.bank) row.old.values.items }
-        requires count { count ≤ length row.old.values.items }
-        ensures same { SameEngine engine.old engine.new }
-        ensures stays { Stays (B.store engine.old.bank) (B.store engine.new.bank) self.old.list
-            self.new.list }
+        requires can { CanSave (B.store engine.old.bank) row.old self.old count }
+        ensures relists { Relists B.store engine.old engine.new self.old.list self.new.list
+            result }
         ensures leaves { Leaves (B.store engine.old.bank) (B.store engine.new.bank)
             row.old row.new self.new count }
         ensures all { OnOk result (HasAll (B.store engine.new.bank) self.new.list
             row.old.values.items) }
-        ensures room { RoomOnlyIfFull (B.store engine.new.bank) engine.new.memo result }
     {
         let all = row.values.len();
         let saved = self.save(engine, row, all);

@@ -9,14 +9,16 @@ use crate::lines::{Spot, spot_of};
 use rec_syntax::{Rule, Syntax};
 use std::alloc::{AllocError, Global};
 
-/// Returns the location of the byte at offset `at`, from that of an earlier one.
-fn spot_behind(source: &[u8], from: usize, spot: Spot, at: usize) -> Spot
-    requires order { from ≤ at }
+/// Returns the location of the byte at offset `at`, from that of another one.
+fn spot_by(source: &[u8], from: usize, spot: Spot, at: usize) -> Spot
     requires within { at ≤ length source.now }
     requires short { length source.now < 2 ^ 63 }
     requires known { spot ≡ spot_at source.now from }
     ensures { result ≡ spot_at source.now at }
 {
+    if at < from {
+        return spot_of(source, at);
+    }
     let mut line = spot.line;
     let mut column = spot.column;
     let piece = &source[from..at];
@@ -29,20 +31,6 @@ fn spot_behind(source: &[u8], from: usize, spot: Spot, at: usize) -> Spot
         }
     }
     Spot { line, column }
-}
-
-/// Returns the location of the byte at offset `at`, from that of another one.
-fn spot_by(source: &[u8], from: usize, spot: Spot, at: usize) -> Spot
-    requires within { at ≤ length source.now }
-    requires short { length source.now < 2 ^ 63 }
-    requires known { spot ≡ spot_at source.now from }
-    ensures { result ≡ spot_at source.now at }
-{
-    if from <= at {
-        spot_behind(source, from, spot, at)
-    } else {
-        spot_of(source, at)
-    }
 }
 
 /// Returns the offset at which a rule begins.

@@ -5,25 +5,22 @@ mod finding;
 mod rewriting;
 mod running;
 
-ghost use Rattle.std.specs.Prelude.{◌≡◌, ◌<◌, ◌+◌, ◌∷◌, ◌⊎◌, ℕ, None, IfOk, OnOk, false, length, IfErr};
-ghost use Rattle.std.specs.Prelude.{reverse};
+ghost use Rattle.std.specs.Prelude.{◌≡◌, ◌<◌, ◌+◌, ◌⊎◌, ℕ, None, IfOk, false, length, IfErr};
 ghost use Rattle.rx_term.specs.Store.{tree_at};
-ghost use Rattle.rx_term.specs.Tree.{Tree, Trees};
+ghost use Rattle.rx_term.specs.Tree.{Trees};
 ghost use Rattle.rx_term.specs.Walks.{held_tree};
 ghost use Rattle.rec_syntax.specs.Syntax.{Rule};
 ghost use Rattle.rec_sorts.specs.Binding.{Substitution, application, next_match};
 ghost use Rattle.rec_sorts.specs.Lookup.{symbols};
 ghost use Rattle.rec_sorts.specs.Numbering.{name_of};
-ghost use Rattle.rec_sorts.specs.SpecRules.{fault};
 ghost use Rattle.rec_sorts.specs.declared.letters.Meaning.TheVariants.{Symbol};
 ghost use Rattle.rec_engine.specs.Engine.{SameEngine};
+ghost use Rattle.rec_trace.specs.Inner.Calls.{Relists};
 ghost use Rattle.rec_trace.specs.Inner.Sides.{HasSide, HasValues, IsMatch};
 ghost use Rattle.rec_trace.specs.Inner.Spreading.{CanSpread, top_of};
-ghost use Rattle.rec_trace.specs.Inner.Turns.{ComesTo, HasFired};
-ghost use Rattle.rec_trace.specs.Lists.{IsKept, IsSaved, Stays, count_among};
-ghost use Rattle.rec_trace.specs.Rows.{AreInRow};
+ghost use Rattle.rec_trace.specs.Inner.Turns.{CanCall, ComesTo, HasFired};
+ghost use Rattle.rec_trace.specs.Lists.{IsKept, Stays, count_among};
 ghost use Rattle.rec_trace.specs.Tracing.{IsEvent, IsInOrder, IsLimit, IsTurn, Stands};
-ghost use Rattle.rec_trace.specs.declared.row.Step.TheVariants as step;
 ghost use Rattle.rec_trace.specs.declared.sides.Side.TheVariants.{Contractum};
 ghost use Rattle.rec_trace.specs.declared.tracer.Event.TheVariants.{Limit};
 ghost use Rattle.rec_engine.specs.declared.engine.errors.EngineFault.TheVariants.{Memory};
@@ -163,18 +160,12 @@ impl Tracer {
         symbol: u32,
         count: u32,
     ) -> Result<Option<Event>, EngineFault>
-        requires good { fault engine.old.spec ≡ None }
-        requires row { AreInRow engine.old.spec (B.store engine.old.bank)
-            (step.Invoke symbol count ∷ reverse self.old.row.steps.items)
-            self.old.row.values.items }
-        requires saved { IsSaved (B.store engine.old.bank) self.old.row self.old.saved }
-        ensures same { SameEngine engine.old engine.new }
-        ensures stays { Stays (B.store engine.old.bank) (B.store engine.new.bank)
-            self.old.saved.list self.new.saved.list }
+        requires can { CanCall engine.old.spec (B.store engine.old.bank) self.old symbol count }
+        ensures relists { Relists B.store engine.old engine.new self.old.saved.list
+            self.new.saved.list result }
         ensures comes { IfOk result (λ event. ComesTo engine.old.spec (B.store engine.old.bank)
             (B.store engine.new.bank) self.old self.new
             (name_of engine.old.spec (Symbol symbol)) count event) }
-        ensures room { RoomOnlyIfFull (B.store engine.new.bank) engine.new.memo result }
     {
         self.row.apply(engine, symbol, count)?;
         if !has_rules(engine, symbol) {

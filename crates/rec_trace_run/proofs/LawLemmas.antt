@@ -16,7 +16,7 @@ use Rattle.rec_sorts.specs.Evaluation.{Outcome, Done, Over, Eval}
 use Rattle.rec_sorts.specs.SpecRules.{fault}
 use Rattle.rec_engine.proofs.ValueTreeLemmas.{IsApplied, value_is_applied}
 use Rattle.rx_run.specs.Due.{steps_text}
-use Rattle.rec_run.specs.Output.{Task, bare, limit_text, line, tasks}
+use Rattle.rec_run.specs.Output.{Task, bare, chosen, limit_text, line}
 use Rattle.rec_run.specs.declared.options.LimitLines.TheVariants.{Bare}
 use Rattle.rec_trace.specs.Lines.{begins_with_digit, cut, firing_line, place_text, spent_text, value_line, whole_line, whole_text}
 use Rattle.rec_trace.specs.Trace.{Firing, Trace}
@@ -257,7 +257,7 @@ values_law_for source y given shown n good short =
     let e = sym (trace_law y good n task.term).0 in
     or-false (begins_with_digit (value_line shown.counted n task.notes r.outcome)) (begins_with_dot (value_line shown.counted n task.notes r.outcome))
     (value-other y shown.counted n task.term task.notes r.outcome e) (value-undotted y shown.counted n task.term task.notes r.outcome e))
-    (tasks y given)
+    (chosen shown.terms y given)
 
 -- ---- no digit, where neither the first lines nor the last are asked for
 
@@ -281,7 +281,7 @@ digits_law_for source y given shown n first last good short =
     values-all source y shown n good short (λ l. not (begins_with_digit l)) no-digit-line
     (λ ls. mores (left_out_count shown.picked ls) (none-left-out shown.picked ls (none-left shown.picked ls first last).0))
     (λ task. ap not (value-other y shown.counted n task.term task.notes (Trace y n task.term).outcome (sym (trace_law y good n task.term).0)))
-    (tasks y given)
+    (chosen shown.terms y given)
   where
     mores : (k : ℕ) → k ≡ 0 → AreLeft (λ l. not (begins_with_digit l)) (more_line k)
     mores zero e = tt

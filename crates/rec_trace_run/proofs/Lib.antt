@@ -1,6 +1,6 @@
 mod PageLemmas
 mod PickLemmas
-mod KeptLemmas
+mod SectionLemmas
 mod NextLemmas
 mod TellingLemmas
 mod StepLemmas

@@ -1,15 +1,15 @@
 -- What a firing adds to the lines of its term.
-use Rattle.std.proofs.Common.{refl, sym, ap, subst, ◌∙◌, append-nil}
-use Rattle.std.specs.Prelude.{ℕ, ◌≡◌, ◌+◌, Bool, true, false, cond, List, [], ◌∷◌, ◌++◌, Some, None, Vec, map}
+use Rattle.std.proofs.Common.{refl, sym, ap, ◌∙◌, append-nil}
+use Rattle.std.proofs.lemmas.List.{length-append}
+use Rattle.std.specs.Prelude.{ℕ, ◌≡◌, ◌+◌, Bool, true, false, cond, List, [], ◌∷◌, ◌++◌, Option, None, Vec, if◌then◌else◌, length, map}
+use Rattle.std.specs.Option.{option_to_list}
 use Rattle.std.specs.declared.alloc.Global.{Global}
 use Rattle.rec_trace.specs.Trace.{Firing}
 use Rattle.rec_trace_run.specs.Picks.{Picks, is_picked, picks_by}
-use Rattle.rec_trace_run.specs.Inner.Telling.{HasKept, TakesUp, fresh_lines, place_of}
+use Rattle.rec_trace_run.specs.Inner.Telling.{AddsIf, TakesUp, section_lines, texts_of}
 use Rattle.rec_trace_run.specs.Traces.{Shown, picked_lines, shown_by, step_line}
-use Rattle.rec_trace_run.specs.declared.kept.Kept.{Kept}
-use Rattle.rec_trace_run.specs.declared.kept.Place.TheVariants.{Front, Behind, Nowhere}
 use Rattle.rec_trace_run.specs.declared.options.TraceOptions.{TraceOptions}
-use Rattle.rec_trace_run.proofs.KeptLemmas.{fresh-behind, fresh-front, fresh-none, fresh-nowhere, kept-counted}
+use Rattle.rec_trace_run.specs.declared.section.Section.{Section}
 
 module _ (source : List ℕ) (options : TraceOptions) (before : List (List ℕ)) (f : Firing) where
   abbrev shown : Shown
@@ -43,38 +43,17 @@ module _ (source : List ℕ) (options : TraceOptions) (before : List (List ℕ))
       by false h = refl
 
   -- it is not picked
-  pub takes-none : (k : Kept) → is_picked source p f ≡ false → HasKept p before k → TakesUp source options before f k None
-  takes-none k e h =
-      let none = none-picked e in
-      record {
-        kept_on = subst (λ ls. HasKept p ls k) (sym (ap (λ ls. before ++ ls) none ∙ append-nil before)) h;
-        fresh = ap (fresh_lines p before) none ∙ fresh-none p before;
-      }
+  pub takes-none : (s : Section) → is_picked source p f ≡ false → s.seen ≡ length before → TakesUp source options before f s s None
+  takes-none s e is =
+      let none : before ++ one ≡ before = ap (λ ls. before ++ ls) (none-picked e) ∙ append-nil before in
+      record { counted = is ∙ sym (ap (λ ls. length ls) none); lines = ap (section_lines s) none ∙ sym (append-nil (section_lines s before)) }
 
-  -- its line stands in front
-  pub takes-front : (k k' : Kept) (line : Vec ℕ Global) → one ≡ line_is ∷ [] → line.items ≡ line_is → place_of k ≡ Front → HasKept p before k
-      → HasKept p (before ++ line.items ∷ []) k' → TakesUp source options before f k' (Some line)
-  takes-front k k' line is text e h h' =
-      let here : one ≡ line.items ∷ [] = is ∙ ap (λ l. l ∷ []) (sym text) in
+  -- it is picked, and the section has it or not
+  pub takes-line : (s s' : Section) (here : Bool) (line : Option (Vec ℕ Global)) → one ≡ line_is ∷ [] → AddsIf s here → s'.seen ≡ s.seen + 1
+      → texts_of (option_to_list line) ≡ (if here then line_is ∷ [] else []) → s.seen ≡ length before → TakesUp source options before f s s' line
+  takes-line s s' here line picked adds counted text is =
+      let more : before ++ one ≡ before ++ line_is ∷ [] = ap (λ ls. before ++ ls) picked in
       record {
-        kept_on = subst (λ ls. HasKept p (before ++ ls) k') (sym here) h';
-        fresh = ap (fresh_lines p before) here ∙ fresh-front p before line.items k h e;
+        counted = counted ∙ ap (λ k. k + 1) is ∙ sym (length-append before (line_is ∷ [])) ∙ sym (ap (λ ls. length ls) more);
+        lines = ap (section_lines s) more ∙ adds before line_is is ∙ ap (λ ls. section_lines s before ++ ls) (sym text);
       }
-
-  -- it is kept
-  pub takes-behind : (k k' : Kept) (line : Vec ℕ Global) → one ≡ line_is ∷ [] → line.items ≡ line_is → place_of k ≡ Behind → HasKept p before k
-      → HasKept p (before ++ line.items ∷ []) k' → TakesUp source options before f k' None
-  takes-behind k k' line is text e h h' =
-      let here : one ≡ line.items ∷ [] = is ∙ ap (λ l. l ∷ []) (sym text) in
-      record {
-        kept_on = subst (λ ls. HasKept p (before ++ ls) k') (sym here) h';
-        fresh = ap (fresh_lines p before) here ∙ fresh-behind p before line.items k h e;
-      }
-
-  -- it is only counted
-  pub takes-counted : (k k' : Kept) → one ≡ line_is ∷ [] → place_of k ≡ Nowhere → k'.front ≡ k.front → k'.most ≡ k.most → k'.last ≡ k.last
-      → k'.left_out ≡ k.left_out + 1 → HasKept p before k → TakesUp source options before f k' None
-  takes-counted k k' is e front most last out h = record {
-    kept_on = subst (λ ls. HasKept p (before ++ ls) k') (sym is) (kept-counted p before line_is k k' e front most last out h);
-    fresh = ap (fresh_lines p before) is ∙ fresh-nowhere p before line_is k h e;
-  }

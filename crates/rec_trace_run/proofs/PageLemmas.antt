@@ -1,7 +1,7 @@
 -- Texts that are written one behind the other.
 use Rattle.std.proofs.Common.{false, refl, sym, ap, ap₂, subst, ◌∙◌, arith, append-nil, append_assoc}
 use Rattle.std.proofs.lemmas.Result.{IfErr-weaker}
-use Rattle.std.specs.Prelude.{ℕ, ◌≡◌, ◌+◌, ◌||◌, List, [], ◌++◌, IfErr, IsErrAnd, Option, Result, Err}
+use Rattle.std.specs.Prelude.{ℕ, ◌≡◌, ◌+◌, ◌||◌, List, [], ◌++◌, IfErr, IsErrAnd, OnOk, Option, Result, Ok, Err}
 use Rattle.rx_term.specs.Store.{Store}
 use Rattle.rx_text.specs.Output.{IsSameOutput, contents_of}
 use Rattle.rec_memo.specs.Pairs.{Pairs}
@@ -21,7 +21,7 @@ use Rattle.rx_run.proofs.ReportLemmas.{returns_no, returns_on}
 use Rattle.rec_run.proofs.DepthLemmas.{gave_up-reports}
 use Rattle.rec_engine.specs.declared.engine.errors.EngineFault.{EngineFault}
 use Rattle.rec_engine.specs.declared.engine.errors.EngineFault.TheVariants as engine
-use Rattle.rec_trace_run.specs.Inner.Pages.{Breaks, FullIfRoom, IsPageCause, IsSamePage, IsTraceCause, Prints, ReportsPage}
+use Rattle.rec_trace_run.specs.Inner.Pages.{Breaks, FullIfRoom, IsPageCause, IsSamePage, IsTraceCause, Prints, ReportsPage, WritesText}
 use Rattle.rec_trace_run.specs.declared.page.Page.{Page}
 
 reports-later : (f : RunFault) (lines more : ℕ) (before written : List ℕ) → more ≡ lines + newlines before → ReportsAfter more f written
@@ -98,6 +98,29 @@ module _ {W : Type 0} (contents : W → Option (List ℕ)) where
   -- all was written before memory ran out
   pub breaks-whole : (a b : Page W) (text : List ℕ) → Prints contents a b text → Breaks contents a b text (fault.Memory b.lines)
   breaks-whole a b text h = record { written = text; appended = h.written; front = ([], sym (append-nil text)); reported = h.counted }
+
+  -- a text, and another one behind it, or a part of that
+  pub writes-behind : {T : Type 0} (a b c : Page W) (xs ys : List ℕ) (r : Result T RunFault) → Prints contents a b xs
+      → WritesText contents b c ys r → WritesText contents a c (xs ++ ys) r
+  writes-behind a b c xs ys (Ok x) h k = record { ok = prints-both a b c xs ys h k.ok; err = tt }
+  writes-behind a b c xs ys (Err f) h k = record { ok = tt; err = breaks-behind a b c xs ys f h k.err }
+
+  -- a part of a text before this fault
+  pub writes-at : {T : Type 0} (a b : Page W) (text : List ℕ) (r : Result T RunFault) (f : RunFault) → IsErrAnd r (λ e. e ≡ f)
+      → Breaks contents a b text f → WritesText contents a b text r
+  writes-at a b text (Ok x) f is s = absurd is
+  writes-at a b text (Err e) f is s = record { ok = tt; err = subst (λ z. Breaks contents a b text z) (sym is) s }
+
+  pub writes-ok : {T : Type 0} (a b : Page W) (text : List ℕ) (x : T) → Prints contents a b text → WritesText {T = T} contents a b text (Ok x)
+  writes-ok a b text x h = record { ok = h; err = tt }
+
+  pub writes-err : {T : Type 0} (a b : Page W) (text : List ℕ) (f : RunFault) → Breaks contents a b text f → WritesText {T = T} contents a b text (Err f)
+  writes-err a b text f h = record { ok = tt; err = h }
+
+  -- by what each outcome has written
+  pub writes-by : {T : Type 0} (a b : Page W) (text : List ℕ) (r : Result T RunFault) → OnOk r (Prints contents a b text)
+      → IfErr r (Breaks contents a b text) → WritesText contents a b text r
+  writes-by a b text r h k = record { ok = h; err = k }
 
 -- where nothing was written before
 pub stops-first : (a b : Option (List ℕ)) (text : List ℕ) (f : RunFault) → StopsAfter 0 f text a b → Stops f text a b

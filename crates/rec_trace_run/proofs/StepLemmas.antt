@@ -21,125 +21,123 @@ use Rattle.rec_trace.specs.declared.tracer.Event.TheVariants as event
 use Rattle.rec_trace.specs.declared.tracer.Tracer.{Tracer}
 use Rattle.rec_trace.proofs.SideLemmas.{rule-at}
 use Rattle.rec_trace_run.specs.Inner.Pages.{Breaks, Prints}
-use Rattle.rec_trace_run.specs.Picks.{Picks, front_lines, picks_by, shown_lines}
 use Rattle.rec_trace.specs.Lines.{rule_spot}
-use Rattle.rec_trace_run.specs.Inner.Telling.{HasKept, HasTold, IsEnd, IsTelling, IsWithin, TakesUp, end_line, fresh_lines, lines_behind, texts_of}
-use Rattle.rec_trace_run.specs.Inner.Telling.{told, told_behind}
+use Rattle.rec_trace_run.specs.Inner.Telling.{HasBounds, HasTold, IsEnd, IsTelling, IsWithin, TakesUp, section_lines, texts_of}
 use Rattle.rec_trace_run.specs.Traces.{Shown, picked_lines, shown_by, step_line}
-use Rattle.rec_trace_run.specs.declared.kept.Kept.{Kept}
+use Rattle.rec_trace_run.specs.declared.section.Section.{Section}
 use Rattle.rec_trace_run.specs.declared.page.Page.{Page}
 use Rattle.rec_trace_run.specs.declared.telling.Telling.{Telling}
 use Rattle.rec_trace_run.proofs.PageLemmas.{breaks-before, breaks-behind, prints-both, prints-none}
-use Rattle.rec_trace_run.proofs.PickLemmas.{behind-more, behind-none, front-more, front-none, picked-append, shown-more}
+use Rattle.rec_trace_run.proofs.PickLemmas.{picked-append}
+use Rattle.rec_trace_run.proofs.SectionLemmas.{both-bounds, same-bounds, same-lines, section-more, section-none}
 use Rattle.rec_trace_run.proofs.TellingLemmas.{joined-append, within-end, within-next}
 
 -- these fired, and were told; the rest is left
-pub record SoFar {W : Type 0} (contents : W → Option (List ℕ)) (y : Spec) (first rest : Traced Tree) (telling : Telling) (kept : Kept)
+pub record SoFar {W : Type 0} (contents : W → Option (List ℕ)) (y : Spec) (first rest : Traced Tree) (telling : Telling) (start section : Section)
     (page now : Page W) : Type 0 where
   pub fired : List Firing
   pub all : first.firings ≡ fired ++ rest.firings
   pub outcome : rest.outcome ≡ first.outcome
-  pub kept_on : (source : List ℕ) → IsTelling source y telling
-      → HasKept (picks_by telling.options.picked) (picked_lines source (shown_by telling.options) telling.options.run.steps fired) kept
-  pub printed : (source : List ℕ) → IsTelling source y telling
-      → Prints contents page now
-      (joined (front_lines (picks_by telling.options.picked) (picked_lines source (shown_by telling.options) telling.options.run.steps fired)))
+  pub bounds : HasBounds start section
+  pub seen : (source : List ℕ) → IsTelling source y telling
+      → section.seen ≡ length (picked_lines source (shown_by telling.options) telling.options.run.steps fired)
+  pub printed : (source : List ℕ) → IsTelling source y telling → Prints contents page now
+      (joined (section_lines start (picked_lines source (shown_by telling.options) telling.options.run.steps fired)))
 
-module _ {W : Type 0} (contents : W → Option (List ℕ)) (y : Spec) (telling : Telling) (first : Traced Tree) where
+module _ {W : Type 0} (contents : W → Option (List ℕ)) (y : Spec) (telling : Telling) (first : Traced Tree) (start : Section) (page : Page W) where
   abbrev shown : Shown
   shown = shown_by telling.options
 
   abbrev n : ℕ
   n = telling.options.run.steps
 
-  abbrev p : Picks
-  p = picks_by telling.options.picked
-
   abbrev picked : List ℕ → List Firing → List (List ℕ)
   picked source fs = picked_lines source shown n fs
 
-  pub so-far-none : (kept : Kept) (page : Page W) → HasKept p [] kept → SoFar contents y first first telling kept page page
-  so-far-none kept page h = record {
+  pub so-far-none : start.seen ≡ 0 → SoFar contents y first first telling start start page page
+  so-far-none h = record {
     fired = [];
     all = refl;
     outcome = refl;
-    kept_on = λ source is. h;
-    printed = λ source is. subst (λ ls. Prints contents page page (joined ls)) (sym (front-none p)) (prints-none contents page);
+    bounds = same-bounds start;
+    seen = λ source is. h;
+    printed = λ source is. subst (λ ls. Prints contents page page (joined ls)) (sym (section-none start)) (prints-none contents page);
   }
 
-  pub so-far-more : (r s : Traced Tree) (f : Firing) (kept kept' : Kept) (line : Option (Vec ℕ Global)) (page now new : Page W)
-      → SoFar contents y first r telling kept page now → r ≡ firing_then f s
-      → ((source : List ℕ) (before : List (List ℕ)) → IsTelling source y telling → HasKept p before kept
-      → TakesUp source telling.options before f kept' line) → Prints contents now new (joined (texts_of (option_to_list line)))
-      → SoFar contents y first s telling kept' page new
-  so-far-more r s f kept kept' line page now new h e k written = record {
-    fired = h.fired ++ f ∷ [];
-    all = h.all ∙ ap (λ (z : Traced Tree). h.fired ++ z.firings) e ∙ sym (append_assoc h.fired (f ∷ []) s.firings);
-    outcome = ap (λ (z : Traced Tree). z.outcome) (sym e) ∙ h.outcome;
-    kept_on = λ source is. subst (λ ls. HasKept p ls kept') (sym (picked-append source shown n h.fired (f ∷ [])))
-        (k source (picked source h.fired) is (h.kept_on source is)).kept_on;
-    printed = λ source is.
+  module _ (r s : Traced Tree) (f : Firing) (section section' : Section) (line : Option (Vec ℕ Global)) (now new : Page W)
+      (h : SoFar contents y first r telling start section page now) (e : r ≡ firing_then f s)
+      (told : (source : List ℕ) (before : List (List ℕ)) → IsTelling source y telling → section.seen ≡ length before
+      → TakesUp source telling.options before f section section' line) where
+    -- the lines with one more
+    lines-more : (source : List ℕ) → IsTelling source y telling
+        → section_lines start (picked source h.fired ++ picked source (f ∷ [])) ≡ section_lines start (picked source h.fired) ++ texts_of (option_to_list line)
+    lines-more source is =
         let before = picked source h.fired in
         let one = picked source (f ∷ []) in
-        subst (λ text. Prints contents page new text)
-        (sym (joined-append (front_lines p before) (fresh_lines p before one))
-        ∙ ap joined (sym (front-more p before one) ∙ ap (front_lines p) (sym (picked-append source shown n h.fired (f ∷ [])))))
-        (prints-both contents page now new (joined (front_lines p before)) (joined (fresh_lines p before one)) (h.printed source is)
-        (subst (λ ls. Prints contents now new (joined ls)) (sym (k source before is (h.kept_on source is)).fresh) written));
-  }
+        sym (same-lines start section (before ++ one) h.bounds) ∙ (told source before is (h.seen source is)).lines
+        ∙ ap (λ ls. ls ++ texts_of (option_to_list line)) (same-lines start section before h.bounds)
 
-  -- nothing is left
-  all-fired : (r : Traced Tree) (fired : List Firing) → first.firings ≡ fired ++ r.firings → r.firings ≡ [] → fired ≡ first.firings
-  all-fired r fired all e = sym (all ∙ ap (λ fs. fired ++ fs) e ∙ append-nil fired)
+    pub so-far-more : HasBounds section section' → Prints contents now new (joined (texts_of (option_to_list line)))
+        → SoFar contents y first s telling start section' page new
+    so-far-more bounds written = record {
+      fired = h.fired ++ f ∷ [];
+      all = h.all ∙ ap (λ (z : Traced Tree). h.fired ++ z.firings) e ∙ sym (append_assoc h.fired (f ∷ []) s.firings);
+      outcome = ap (λ (z : Traced Tree). z.outcome) (sym e) ∙ h.outcome;
+      bounds = both-bounds start section section' h.bounds bounds;
+      seen = λ source is. (told source (picked source h.fired) is (h.seen source is)).counted
+          ∙ ap (λ ls. length ls) (sym (picked-append source shown n h.fired (f ∷ [])));
+      printed = λ source is.
+          let before = picked source h.fired in
+          subst (λ text. Prints contents page new text)
+          (sym (joined-append (section_lines start before) (texts_of (option_to_list line)))
+          ∙ ap joined (sym (lines-more source is) ∙ ap (section_lines start) (sym (picked-append source shown n h.fired (f ∷ [])))))
+          (prints-both contents page now new (joined (section_lines start before)) (joined (texts_of (option_to_list line))) (h.printed source is) written);
+    }
 
-  pub so-far-kept : (r : Traced Tree) (kept : Kept) (page now : Page W) → SoFar contents y first r telling kept page now → r.firings ≡ []
-      → (source : List ℕ) → IsTelling source y telling → HasKept p (picked source first.firings) kept
-  so-far-kept r kept page now h e source is = subst (λ fs. HasKept p (picked source fs) kept) (all-fired r h.fired h.all e) (h.kept_on source is)
+    -- its line was not written whole
+    pub so-far-breaks : (fault : RunFault) → Breaks contents now new (joined (texts_of (option_to_list line))) fault
+        → (source : List ℕ) → IsTelling source y telling
+        → Breaks contents page new (joined (section_lines start (picked source first.firings))) fault
+    so-far-breaks fault broken source is =
+        let before = picked source h.fired in
+        let one = picked source (f ∷ []) in
+        let left = picked source s.firings in
+        let texts = texts_of (option_to_list line) in
+        let more = section-more start (before ++ one) left in
+        let all : picked source first.firings ≡ (before ++ one) ++ left =
+        ap (picked source) (h.all ∙ ap (λ (z : Traced Tree). h.fired ++ z.firings) e ∙ sym (append_assoc h.fired (f ∷ []) s.firings))
+        ∙ picked-append source shown n (h.fired ++ f ∷ []) s.firings
+        ∙ ap (λ ls. ls ++ left) (picked-append source shown n h.fired (f ∷ [])) in
+        let lines : section_lines start (picked source first.firings) ≡ (section_lines start before ++ texts) ++ more.0 =
+        ap (section_lines start) all ∙ more.1 ∙ ap (λ ls. ls ++ more.0) (lines-more source is) in
+        subst (λ text. Breaks contents page new text fault)
+        (sym (ap joined lines ∙ joined-append (section_lines start before ++ texts) more.0
+        ∙ ap (λ t. t ++ joined more.0) (joined-append (section_lines start before) texts)))
+        (breaks-before contents page new (joined (section_lines start before) ++ joined texts) (joined more.0) fault
+        (breaks-behind contents page now new (joined (section_lines start before)) (joined texts) fault (h.printed source is) broken))
 
-  pub so-far-all : (r : Traced Tree) (kept : Kept) (page now : Page W) → SoFar contents y first r telling kept page now → r.firings ≡ []
-      → (source : List ℕ) → IsTelling source y telling → Prints contents page now (joined (front_lines p (picked source first.firings)))
-  so-far-all r kept page now h e source is = subst (λ fs. Prints contents page now (joined (front_lines p (picked source fs))))
-      (all-fired r h.fired h.all e) (h.printed source is)
+  module _ (r : Traced Tree) (section : Section) (now : Page W) (h : SoFar contents y first r telling start section page now) where
+    -- the engine gave up
+    pub so-far-stops : (f : RunFault) → ((text : List ℕ) → Breaks contents now now text f) → (source : List ℕ) → IsTelling source y telling
+        → Breaks contents page now (joined (section_lines start (picked source first.firings))) f
+    so-far-stops f broken source is =
+        let before = picked source h.fired in
+        let more = section-more start before (picked source r.firings) in
+        let lines : section_lines start (picked source first.firings) ≡ section_lines start before ++ more.0 =
+        ap (section_lines start) (ap (picked source) h.all ∙ picked-append source shown n h.fired r.firings) ∙ more.1 in
+        subst (λ text. Breaks contents page now text f) (sym (ap joined lines ∙ joined-append (section_lines start before) more.0))
+        (breaks-behind contents page now now (joined (section_lines start before)) (joined more.0) f (h.printed source is) (broken (joined more.0)))
 
-  pub so-far-breaks : (r : Traced Tree) (kept : Kept) (page now new : Page W) (f : RunFault) → SoFar contents y first r telling kept page now
-      → ((source notes : List ℕ) (before : List (List ℕ)) → IsTelling source y telling → HasKept p before kept
-      → Breaks contents now new (told_behind source shown n notes before r) f)
-      → (source notes : List ℕ) → IsTelling source y telling → Breaks contents page new (told source shown n notes first) f
-  so-far-breaks r kept page now new f h k source notes is =
-      let before = picked source h.fired in
-      let left = picked source r.firings in
-      let end = end_line shown.counted n notes r.outcome in
-      let behind = lines_behind p before left in
-      let text : told source shown n notes first ≡ joined (front_lines p before) ++ told_behind source shown n notes before r =
-      ap (λ fs. joined (shown_lines p (picked source fs)) ++ end_line shown.counted n notes first.outcome) h.all
-      ∙ ap (λ o. joined (shown_lines p (picked source (h.fired ++ r.firings))) ++ end_line shown.counted n notes o) (sym h.outcome)
-      ∙ ap (λ ls. joined ls ++ end) (ap (shown_lines p) (picked-append source shown n h.fired r.firings) ∙ shown-more p before left)
-      ∙ ap (λ t. t ++ end) (joined-append (front_lines p before) behind)
-      ∙ append_assoc (joined (front_lines p before)) (joined behind) end in
-      subst (λ z. Breaks contents page new z f) (sym text) (breaks-behind contents page now new (joined (front_lines p before))
-      (told_behind source shown n notes before r) f (h.printed source is) (k source notes before is (h.kept_on source is)))
+    -- nothing is left
+    all-fired : r.firings ≡ [] → h.fired ≡ first.firings
+    all-fired e = sym (h.all ∙ ap (λ fs. h.fired ++ fs) e ∙ append-nil h.fired)
 
--- at first all is to be written yet
-pub told-first : (source : List ℕ) (shown : Shown) (n : ℕ) (notes : List ℕ) (t : Traced Tree)
-    → told_behind source shown n notes [] t ≡ told source shown n notes t
-told-first source shown n notes t = ap (λ ls. joined ls ++ end_line shown.counted n notes t.outcome)
-    (behind-none shown.picked (picked_lines source shown n t.firings))
+    pub so-far-seen : r.firings ≡ [] → (source : List ℕ) → IsTelling source y telling → section.seen ≡ length (picked source first.firings)
+    so-far-seen e source is = h.seen source is ∙ ap (λ fs. length (picked source fs)) (all-fired e)
 
--- what is to be written yet begins with what a firing adds in front
-pub told-next : (source : List ℕ) (shown : Shown) (n : ℕ) (notes : List ℕ) (before : List (List ℕ)) (f : Firing) (t r : Traced Tree) → r ≡ firing_then f t
-    → told_behind source shown n notes before r ≡ joined (fresh_lines shown.picked before (picked_lines source shown n (f ∷ []))) ++ told_behind
-    source shown n notes (before ++ picked_lines source shown n (f ∷ [])) t
-told-next source shown n notes before f t r e =
-    let one = picked_lines source shown n (f ∷ []) in
-    let left = picked_lines source shown n t.firings in
-    let end = end_line shown.counted n notes t.outcome in
-    let fresh = fresh_lines shown.picked before one in
-    let behind = lines_behind shown.picked (before ++ one) left in
-    ap (told_behind source shown n notes before) e
-    ∙ ap (λ ls. joined ls ++ end) (ap (lines_behind shown.picked before) (picked-append source shown n (f ∷ []) t.firings)
-    ∙ behind-more shown.picked before one left)
-    ∙ ap (λ z. z ++ end) (joined-append fresh behind)
-    ∙ append_assoc (joined fresh) (joined behind) end
+    pub so-far-all : r.firings ≡ [] → (source : List ℕ) → IsTelling source y telling
+        → Prints contents page now (joined (section_lines start (picked source first.firings)))
+    so-far-all e source is = subst (λ fs. Prints contents page now (joined (section_lines start (picked source fs)))) (all-fired e) (h.printed source is)
 
 -- ---- the spot of a rule that fired
 
@@ -206,30 +204,16 @@ fired-left y w w' old new rule redex n f k =
     (subst (λ m. m ≤ n) f.left_is at.0, at.1)
 
 -- a rewrite was recorded
-pub told-part : (z : Spec) (w w' w2 : Store) (old new new' : Tracer) (telling : Telling) (kept kept' : Kept) (line : Option (Vec ℕ Global)) (rule : ℕ)
-    (redex : Reference) (f : HasFiredAt z w w' old new rule redex) → rest_of z w2 new' ≡ rest_of z w' new → Stands z w2 new'
-    → ((source : List ℕ) (before : List (List ℕ)) → IsTelling source z telling → HasKept (picks_by telling.options.picked) before kept
-    → TakesUp source telling.options before f.firing kept' line)
-    → HasTold z w w2 old new' telling kept kept' line
-told-part z w w' w2 old new new' telling kept kept' line rule redex f same stands h = record {
+pub told-part : (z : Spec) (w w' w2 : Store) (old new new' : Tracer) (telling : Telling) (section section' : Section) (line : Option (Vec ℕ Global))
+    (rule : ℕ) (redex : Reference) (f : HasFiredAt z w w' old new rule redex) → rest_of z w2 new' ≡ rest_of z w' new → Stands z w2 new'
+    → HasBounds section section'
+    → ((source : List ℕ) (before : List (List ℕ)) → IsTelling source z telling → section.seen ≡ length before
+    → TakesUp source telling.options before f.firing section section' line)
+    → HasTold z w w2 old new' telling section section' line
+told-part z w w' w2 old new new' telling section section' line rule redex f same stands bounds h = record {
   firing = f.firing;
   next = f.next ∙ ap (firing_then f.firing) (sym same);
   stands = stands;
+  bounds = bounds;
   told = h;
 }
-
--- its line was not written whole
-pub told-break : {W : Type 0} (contents : W → Option (List ℕ)) (z : Spec) (w w' : Store) (old new : Tracer) (telling : Telling) (kept kept' : Kept)
-    (line : Option (Vec ℕ Global)) (page now : Page W) (fault : RunFault) → HasTold z w w' old new telling kept kept' line
-    → Breaks contents page now (joined (texts_of (option_to_list line))) fault
-    → (source notes : List ℕ) (before : List (List ℕ)) → IsTelling source z telling → HasKept (picks_by telling.options.picked) before kept
-    → Breaks contents page now (told_behind source (shown_by telling.options) telling.options.run.steps notes before (rest_of z w old)) fault
-told-break contents z w w' old new telling kept kept' line page now fault turn h source notes before is keeps =
-    let shown = shown_by telling.options in
-    let n = telling.options.run.steps in
-    let one = picked_lines source shown n (turn.firing ∷ []) in
-    subst (λ text. Breaks contents page now text fault) (sym
-    (told-next source shown n notes before turn.firing (rest_of z w' new) (rest_of z w old) turn.next))
-    (breaks-before contents page now (joined (fresh_lines shown.picked before one))
-    (told_behind source shown n notes (before ++ one) (rest_of z w' new)) fault
-    (subst (λ ls. Breaks contents page now (joined ls) fault) (sym (turn.told source before is keeps).fresh) h))

@@ -7,7 +7,9 @@ use Rattle.std.specs.Prelude.{ℕ, zero, suc, ◌≡◌, ◌+◌, ◌<◌, ◌�
 use Rattle.rx_term.specs.Tree.{Tree, none}
 use Rattle.rec_syntax.specs.Syntax.{Spec, Term}
 use Rattle.rec_sorts.specs.Numbering.{Pairwise}
-use Rattle.rec_run.specs.Output.{Task, tasks}
+use Rattle.rec_run.specs.Choice.{given_chosen, own_chosen}
+use Rattle.rec_run.specs.Output.{Task, chosen}
+use Rattle.rec_run.proofs.ChoiceLemmas.{chosen-alone, chosen-parts, own}
 use Rattle.rec_trace.specs.Lines.{joined}
 use Rattle.rx_run.specs.declared.ending.RunFault.{RunFault}
 use Rattle.rec_trace_run.specs.Inner.Pages.{Breaks, Prints}
@@ -57,22 +59,28 @@ module _ (source : List ℕ) (y : Spec) (shown : Shown) (n : ℕ) where
   abbrev text : Task → List ℕ
   text t = task_text source y shown n t
 
-  traces-tasks : (us : List Tree) → traces source y us shown n ≡ flat_map text (tasks y us)
-  traces-tasks us = joined-flat (task_lines source y shown n) (tasks y us)
+  traces-chosen : (us : List Tree) → traces source y us shown n ≡ flat_map text (chosen shown.terms y us)
+  traces-chosen us = joined-flat (task_lines source y shown n) (chosen shown.terms y us)
 
-  tasks-text : (us : List Tree) → flat_map text (tasks y us) ≡ flat_map (λ (t : Term). text (record { term = t; notes = none })) y.terms ++ flat_map
-      (λ u. text (given_task u)) us
-  tasks-text us =
-      flat_map-append text (map (λ (t : Term). record { term = t; notes = none }) y.terms) (map given_task us)
-      ∙ ap₂ (λ a b. a ++ b) (flat_map-map text (λ (t : Term). record { term = t; notes = none }) y.terms) (flat_map-map text given_task us)
+  tasks-text : (ts : List Term) (us : List Tree)
+      → flat_map text (map own ts ++ map given_task us) ≡ flat_map (λ (t : Term). text (own t)) ts ++ flat_map (λ u. text (given_task u)) us
+  tasks-text ts us = flat_map-append text (map own ts) (map given_task us)
+      ∙ ap₂ (λ a b. a ++ b) (flat_map-map text own ts) (flat_map-map text given_task us)
 
   -- the traces of a specification's own terms
-  pub traces-own : traces source y [] shown n ≡ flat_map (λ (t : Term). task_text source y shown n (record { term = t; notes = none })) y.terms
-  traces-own = traces-tasks [] ∙ tasks-text [] ∙ append-nil (flat_map (λ (t : Term). text (record { term = t; notes = none })) y.terms)
+  pub traces-own : traces source y [] shown n
+      ≡ flat_map (λ (t : Term). task_text source y shown n (record { term = t; notes = none })) (own_chosen shown.terms y.terms)
+  traces-own =
+      let ts = own_chosen shown.terms y.terms in
+      traces-chosen [] ∙ ap (flat_map text) (chosen-alone shown.terms y) ∙ tasks-text ts [] ∙ append-nil (flat_map (λ (t : Term). text (own t)) ts)
 
   -- those of given terms stand behind them
-  pub traces-both : (us : List Tree) → traces source y us shown n ≡ traces source y [] shown n ++ given_traces source y shown n us
-  traces-both us = traces-tasks us ∙ tasks-text us ∙ ap (λ z. z ++ given_traces source y shown n us) (sym traces-own)
+  pub traces-both : (us : List Tree)
+      → traces source y us shown n ≡ traces source y [] shown n ++ given_traces source y shown n (given_chosen shown.terms (length y.terms) us)
+  traces-both us =
+      let vs = given_chosen shown.terms (length y.terms) us in
+      traces-chosen us ∙ ap (flat_map text) (chosen-parts shown.terms y us) ∙ tasks-text (own_chosen shown.terms y.terms) vs
+      ∙ ap (λ z. z ++ given_traces source y shown n vs) (sym traces-own)
 
 -- ---- items that go in pairs
 

@@ -18,14 +18,15 @@ use Rattle.rec_engine.specs.declared.engine.Outcome.TheVariants.{Value, Limit}
 use Rattle.rx_run.specs.Due.{steps_text}
 use Rattle.rec_run.specs.EvaluatedLines.{HoldsValue, is_over}
 use Rattle.rec_run.specs.GivenTerms.{item_at}
-use Rattle.rec_run.specs.Output.{Task, notes_text}
+use Rattle.rec_run.specs.Output.{Task, is_limited, notes_text}
+use Rattle.rec_run.specs.declared.options.ValueForm.TheVariants.{Plain}
 use Rattle.rec_run.proofs.SpecLineLemmas.{canon_annotated}
 use Rattle.rec_trace.specs.Lines.{joined, spent_text, value_line, whole_text}
 use Rattle.rec_trace.specs.States.{firing_then}
 use Rattle.rec_trace.specs.Trace.{Arrives, Firing, Follow, Trace, Traced, quiet}
 use Rattle.rec_trace.proofs.TraceLemmas.{trace_law}
 use Rattle.rec_trace_run.specs.Picks.{shown_lines}
-use Rattle.rec_trace_run.specs.Inner.Telling.{IsEnd, IsWithin, end_line, end_text, first_text, is_passed, told}
+use Rattle.rec_trace_run.specs.Inner.Telling.{EndsIn, IsEnd, IsWithin, end_line, end_text, first_text, is_passed}
 use Rattle.rec_trace_run.specs.Traces.{Shown, first_lines, picked_lines, task_text}
 
 -- ---- no more is left than there was at first
@@ -81,12 +82,20 @@ spent-same : (counted : Bool) (k : ℕ) → spent_text counted k ≡ steps_text 
 spent-same true k = refl
 spent-same false k = refl
 
-value-end : (y : Spec) (counted : Bool) (n : ℕ) (t : Term) (notes : Trees) (o : evaluation.Outcome Tree) → Eval y n [] t ≡ o
+value-by : (y : Spec) (counted : Bool) (n : ℕ) (t : Term) (notes : Trees) (o : evaluation.Outcome Tree) → Eval y n [] t ≡ o
     → end_line counted n (notes_text notes) o ≡ value_line counted n notes o
-value-end y counted n t notes (Done v left) e =
+value-by y counted n t notes (Done v left) e =
     let bare = applied_unannotated v (value_is_applied y n t v left e) in
     sym (ap₂ (λ (a b : List ℕ). a ++ b ++ codes "\n") (canon_annotated v notes bare) (spent-same counted (n - left)))
-value-end y counted n t notes Over e = refl
+value-by y counted n t notes Over e = refl
+
+-- the line of an outcome, as it is written
+pub value-end : (y : Spec) (w : Store) (counted : Bool) (n : ℕ) (task : Task) (text : List ℕ) (o : Outcome) → EndsIn y w n task.term o
+    → text ≡ notes_text task.notes → end_text w counted n text o ++ codes "\n" ≡ value_line counted n task.notes (Trace y n task.term).outcome
+value-end y w counted n task text o e is =
+    end-written w counted n text (Trace y n task.term).outcome o e.outcome
+    ∙ ap (λ (a : List ℕ). end_line counted n a (Trace y n task.term).outcome) is
+    ∙ value-by y counted n task.term task.notes (Trace y n task.term).outcome (sym (trace_law y e.good n task.term).0)
 
 -- ---- all that is written of a term
 
@@ -100,15 +109,16 @@ first-joined : (shown : Shown) (u : Tree) → joined (first_lines shown u) ≡ f
 first-joined shown u = by shown.whole
   where
     with_whole : Bool → Shown
-    with_whole whole = record { whole = whole; counted = shown.counted; width = shown.width; picked = shown.picked }
+    with_whole whole = record { whole = whole; counted = shown.counted; width = shown.width; picked = shown.picked; terms = shown.terms }
 
     by : (whole : Bool) → joined (first_lines (with_whole whole) u) ≡ first_text (with_whole whole) u
     by true = joined-one (whole_text 0 0 false shown.width 0 u)
     by false = refl
 
-pub task-told : (source : List ℕ) (y : Spec) (shown : Shown) (n : ℕ) (task : Task) → fault y ≡ None
-    → task_text source y shown n task ≡ first_text shown (tree_of task.term) ++ told source shown n (notes_text task.notes) (Trace y n task.term)
-task-told source y shown n task good =
+pub task-parts : (source : List ℕ) (y : Spec) (shown : Shown) (n : ℕ) (task : Task) → let r = Trace y n task.term in
+    task_text source y shown n task ≡ first_text shown (tree_of task.term)
+    ++ (joined (shown_lines shown.picked (picked_lines source shown n r.firings)) ++ value_line shown.counted n task.notes r.outcome)
+task-parts source y shown n task =
     let r = Trace y n task.term in
     let first = first_lines shown (tree_of task.term) in
     let steps = shown_lines shown.picked (picked_lines source shown n r.firings) in
@@ -116,9 +126,12 @@ task-told source y shown n task good =
     joined-append (first ++ steps) (last ∷ [])
     ∙ ap₂ (λ (a b : List ℕ). a ++ b) (joined-append first steps) (joined-one last)
     ∙ append_assoc (joined first) (joined steps) last
-    ∙ ap₂ (λ (a b : List ℕ). a ++ (joined steps ++ b)) (first-joined shown (tree_of task.term))
-    (sym (value-end y shown.counted n task.term task.notes r.outcome (sym (trace_law y good n task.term).0)))
+    ∙ ap (λ (a : List ℕ). a ++ (joined steps ++ last)) (first-joined shown (tree_of task.term))
 
 pub end-passed : (w : Store) (n : ℕ) (o : evaluation.Outcome Tree) (outcome : Outcome) → IsEnd w n o outcome → is_over outcome ≡ is_passed o
 end-passed w n o (Value t steps) (v, left, held, is, spent) = ap is_passed (sym is)
 end-passed w n o Limit is = ap is_passed (sym is)
+
+-- a trace passes the limit as evaluation does
+pub ends-limited : (y : Spec) (w : Store) (n : ℕ) (task : Task) (o : Outcome) → EndsIn y w n task.term o → is_over o ≡ is_limited y Plain n task
+ends-limited y w n task o e = end-passed w n (Trace y n task.term).outcome o e.outcome ∙ ap is_passed (trace_law y e.good n task.term).0

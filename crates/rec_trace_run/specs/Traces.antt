@@ -1,6 +1,6 @@
 -- The specified output of a run of traces, and how the run ends.
 --     task_text source y shown n task   the text that is written for a term
---     traces source y given shown n     the traces of the EVAL terms and of the input terms
+--     traces source y given shown n     the traces of the chosen EVAL terms and input terms
 --     IsTraceDueFor shown n texts d     the output that is specified for the texts of a run
 use Rattle.std.specs.Prelude.{ℕ, ◌≡◌, ◌<◌, ◌^◌, ◌||◌, Bool, true, false, not, List, [], ◌∷◌, ◌++◌}
 use Rattle.std.specs.Prelude.{Option, Some, None, filter, flat_map, length, map, nat_eq}
@@ -9,9 +9,13 @@ use Rattle.rec_syntax.specs.Syntax.{Spec}
 use Rattle.rec_sorts.specs.Binding.{tree_of}
 use Rattle.rec_sorts.specs.SpecRules.{Verdict, Good, SpecVerdict, fault}
 use Rattle.rx_run.specs.Due.{Due, done}
-use Rattle.rec_run.specs.Output.{Task, TermsVerdict, GoodTerms, IsTermsVerdict, bare, due_of_spec}
-use Rattle.rec_run.specs.Output.{due_of_terms, each_line, tasks}
+use Rattle.rec_run.specs.Output.{Shown as Lines}
+use Rattle.rec_run.specs.Output.{Task, TermsVerdict, GoodTerms, IsTermsVerdict, bare, chosen}
+use Rattle.rec_run.specs.Output.{due_of_spec, due_of_terms, each_line}
 use Rattle.rec_run.specs.Run.{Texts}
+use Rattle.rec_run.specs.declared.options.LimitLines.TheVariants.{Bare}
+use Rattle.rec_run.specs.declared.options.TermChoice.{TermChoice}
+use Rattle.rec_run.specs.declared.options.ValueForm.TheVariants.{Plain}
 use Rattle.rec_trace.specs.Lines.{begins_with_digit, firing_line, joined, term_lines, value_line}
 use Rattle.rec_trace.specs.Lines.{whole_line, whole_text}
 use Rattle.rec_trace.specs.Trace.{Firing, Trace}
@@ -19,12 +23,13 @@ use Rattle.rec_trace_run.specs.Picks.{Picks, all_picked, is_picked, picks_by, sh
 use Rattle.rec_trace_run.specs.declared.options.TraceOptions.{TraceOptions}
 
 -- the form of traces: whether whole terms are shown, whether the steps spent are, the largest
--- number of bytes of a term, and the selection of rewrites
+-- number of bytes of a term, the selection of rewrites, and the terms that are traced
 pub record Shown : Type 0 where
   pub whole : Bool
   pub counted : Bool
   pub width : Option ℕ
   pub picked : Picks
+  pub terms : TermChoice
 
 -- the form of traces by these options
 abbrev pub shown_by : TraceOptions → Shown
@@ -33,6 +38,17 @@ shown_by o = record {
   counted = o.run.count;
   width = o.width;
   picked = picks_by o.picked;
+  terms = o.terms;
+}
+
+-- the form of the lines of evaluation that a trace has, and their terms
+abbrev pub lines_shown : Shown → Lines
+lines_shown shown = record {
+  count = shown.counted;
+  sizes = false;
+  limits = Bare;
+  form = Plain;
+  terms = shown.terms;
 }
 
 -- the line of a rewrite
@@ -67,9 +83,10 @@ task_lines source y shown n task =
 abbrev pub task_text : List ℕ → Spec → Shown → ℕ → Task → List ℕ
 task_text source y shown n task = joined (task_lines source y shown n task)
 
--- the lines of the EVAL terms and then of the input terms, each with the whole step limit
+-- the lines of the chosen terms, each with the whole step limit
 abbrev pub trace_lines : List ℕ → Spec → List Tree → Shown → ℕ → List (List ℕ)
-trace_lines source y given shown n = flat_map (task_lines source y shown n) (tasks y given)
+trace_lines source y given shown n =
+    flat_map (task_lines source y shown n) (chosen shown.terms y given)
 
 -- the text of all these lines
 abbrev pub traces : List ℕ → Spec → List Tree → Shown → ℕ → List ℕ
@@ -120,7 +137,7 @@ ValuesLaw = (source : List ℕ) (y : Spec) (given : List Tree) (shown : Shown) (
     → fault y ≡ None → length source < 2 ^ 63
     → filter (λ l. not (begins_with_digit l || begins_with_dot l))
     (trace_lines source y given shown n)
-    ≡ each_line y given (bare shown.counted) n
+    ≡ each_line y given (lines_shown shown) n
 
 -- without `first` and `last`, the lines that begin with no digit are the lines of evaluation
 abbrev pub DigitsLaw : Type 0
@@ -128,4 +145,4 @@ DigitsLaw = (source : List ℕ) (y : Spec) (given : List Tree) (shown : Shown) (
     → shown.picked.first ≡ None → shown.picked.last ≡ None
     → fault y ≡ None → length source < 2 ^ 63
     → filter (λ l. not (begins_with_digit l)) (trace_lines source y given shown n)
-    ≡ each_line y given (bare shown.counted) n
+    ≡ each_line y given (lines_shown shown) n

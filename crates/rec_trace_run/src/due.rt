@@ -9,8 +9,9 @@ ghost use Rattle.rx_run.specs.Run.{Stops};
 ghost use Rattle.rec_engine.specs.Engine.{RemembersNothing};
 ghost use Rattle.rec_run.specs.EvaluatedLines.{ReportsOutput, engine_options};
 ghost use Rattle.rec_run.specs.GivenTerms.{HoldsTerms, IsReady, IsRefused, given_by};
-ghost use Rattle.rec_run.specs.Output.{limit_lines};
-ghost use Rattle.rec_run.specs.Reports.{job_limits};
+ghost use Rattle.rec_run.specs.Depth.{counts_in};
+ghost use Rattle.rec_run.specs.Output.{counts_of};
+ghost use Rattle.rec_run.specs.Reports.{job_counts};
 ghost use Rattle.rec_run.specs.Run.{HasRoom};
 ghost use Rattle.rec_run.specs.declared.options.ValueForm.TheVariants.{Plain};
 ghost use Rattle.rec_trace_run.specs.Inner.Due.{job_traces, trace_due};
@@ -24,7 +25,7 @@ use crate::page::Page;
 use crate::telling::Telling;
 use crate::terms::write_traces;
 use rec_engine::Engine;
-use rec_run::{Job, RunReport, end_run, engine_over, refuse};
+use rec_run::{Counts, Job, RunReport, end_run, engine_over, refuse};
 use rec_sorts::Checked;
 use rec_trace::rule_spots;
 use rx_run::{Reading, RunFault};
@@ -64,8 +65,8 @@ pub(crate) fn answer<B: TermBank + Drop, W: Write>(
     requires unrooted { (t : ℕ) → (B.store bank).roots t ≡ 0 }
     requires ready { IsReady (B.store bank) reading }
     ensures ends { IfOk result.end (λ report. report.ending ≡ ending_of reading) }
-    ensures limits { IfOk result.end (λ report. report.limit_lines
-        ≡ job_limits (B.store bank) Plain setup.entry.options.run.steps reading) }
+    ensures counts { IfOk result.end (λ report. counts_in report ≡ job_counts (B.store bank)
+        setup.entry.options.terms Plain setup.entry.options.run.steps reading) }
     ensures ok { OnOk result.end (Writes W.contents out.old out.new
         (trace_due (B.store bank) (shown_by setup.entry.options) setup.entry.options.run.steps
         reading).text) }
@@ -85,17 +86,17 @@ pub(crate) fn answer<B: TermBank + Drop, W: Write>(
     }
 }
 
-/// Writes the specified output, and returns the number of limit lines.
+/// Writes the specified output, and returns the numbers of lines of evaluation.
 fn write_due<B: TermBank + Drop, W: Write>(
     setup: Setup<'_>,
     bank: B,
     reading: Reading<Job>,
     out: &mut Output<'_, W>,
-) -> Left<u64, B>
+) -> Left<Counts, B>
     requires unrooted { (t : ℕ) → (B.store bank).roots t ≡ 0 }
     requires ready { IsReady (B.store bank) reading }
-    ensures limits { IfOk result.end (λ limits. limits
-        ≡ job_limits (B.store bank) Plain setup.entry.options.run.steps reading) }
+    ensures counts { IfOk result.end (λ counts. counts ≡ job_counts (B.store bank)
+        setup.entry.options.terms Plain setup.entry.options.run.steps reading) }
     ensures ok { OnOk result.end (Writes W.contents out.old out.new
         (trace_due (B.store bank) (shown_by setup.entry.options) setup.entry.options.run.steps
         reading).text) }
@@ -122,11 +123,12 @@ fn write_job<B: TermBank + Drop, W: Write>(
     job: Job,
     bank: B,
     out: &mut Output<'_, W>,
-) -> Left<u64, B>
+) -> Left<Counts, B>
     requires unrooted { (t : ℕ) → (B.store bank).roots t ≡ 0 }
     requires given { ForSome job.list (HoldsTerms job.checked.spec (B.store bank)) }
-    ensures limits { IfOk result.end (λ limits. limits ≡ limit_lines job.checked.spec
-        (given_by (B.store bank) job.list) Plain setup.entry.options.run.steps) }
+    ensures counts { IfOk result.end (λ counts. counts ≡ counts_of setup.entry.options.terms
+        job.checked.spec (given_by (B.store bank) job.list) Plain
+        setup.entry.options.run.steps) }
     ensures ok { OnOk result.end (Writes W.contents out.old out.new
         (job_traces (B.store bank) (shown_by setup.entry.options) setup.entry.options.run.steps
         job)) }
@@ -183,13 +185,14 @@ fn write_prepared<B: TermBank + Drop, W: Write>(
     bank: B,
     prepared: &Prepared<'_>,
     out: &mut Output<'_, W>,
-) -> Left<u64, B>
+) -> Left<Counts, B>
     requires unrooted { (t : ℕ) → (B.store bank).roots t ≡ 0 }
     requires telling { IsTelling checked.source checked.spec prepared.now.telling }
     requires given { (us : List Tree) × AreGivenTerms checked.spec us prepared.now.terms }
-    ensures limits { IfOk result.end (λ limits. (us : List Tree)
+    ensures counts { IfOk result.end (λ counts. (us : List Tree)
         → AreGivenTerms checked.spec us prepared.now.terms
-        → limits ≡ limit_lines checked.spec us Plain prepared.now.telling.options.run.steps) }
+        → counts ≡ counts_of prepared.now.telling.options.terms checked.spec us Plain
+        prepared.now.telling.options.run.steps) }
     ensures ok { OnOk result.end ((us : List Tree)
         → AreGivenTerms checked.spec us prepared.now.terms
         → Writes W.contents out.old out.new
@@ -219,14 +222,15 @@ fn write_over<B: TermBank + Drop, W: Write>(
     mut engine: Engine<B>,
     prepared: &Prepared<'_>,
     out: &mut Output<'_, W>,
-) -> Left<u64, B>
+) -> Left<Counts, B>
     requires telling { (source : List ℕ) × IsTelling source engine.spec prepared.now.telling }
     requires given { (us : List Tree) × AreGivenTerms engine.spec us prepared.now.terms }
     requires options { engine.options ≡ engine_options prepared.now.telling.options.run }
     requires memo { RemembersNothing prepared.now.telling.options.run.memo engine.memo }
-    ensures limits { IfOk result.end (λ limits. (us : List Tree)
+    ensures counts { IfOk result.end (λ counts. (us : List Tree)
         → AreGivenTerms engine.spec us prepared.now.terms
-        → limits ≡ limit_lines engine.spec us Plain prepared.now.telling.options.run.steps) }
+        → counts ≡ counts_of prepared.now.telling.options.terms engine.spec us Plain
+        prepared.now.telling.options.run.steps) }
     ensures ok { OnOk result.end ((source : List ℕ) (us : List Tree)
         → IsTelling source engine.spec prepared.now.telling
         → AreGivenTerms engine.spec us prepared.now.terms

@@ -3,32 +3,25 @@
 
 ghost use Rattle.std.specs.Prelude.{◌≡◌, ◌++◌, ℕ, IfErr, IfOk, List, OnOk, codes, false};
 ghost use Rattle.rec_syntax.specs.Syntax.{Term};
+ghost use Rattle.rec_sorts.specs.Binding.{tree_of};
 ghost use Rattle.rec_engine.specs.Engine.{SameEngine};
 ghost use Rattle.rec_run.specs.EvaluatedLines.{HoldsValue};
 ghost use Rattle.rec_run.specs.Output.{Task, is_limited, notes_text};
 ghost use Rattle.rec_run.specs.declared.options.ValueForm.TheVariants.{Plain};
 ghost use Rattle.rec_trace.specs.Faults.{RoomOnlyIfFull};
 ghost use Rattle.rec_trace.specs.Lines.{whole_text};
-ghost use Rattle.rec_trace.specs.Lists.{IsKept};
-ghost use Rattle.rec_trace.specs.Tracing.{Stands, rest_of, whole_of};
 ghost use Rattle.rec_trace_run.specs.Inner.Pages.{Breaks, Prints, ReportsPage, ReportsTrace};
+ghost use Rattle.rec_trace_run.specs.Inner.Pages.{WritesText};
 ghost use Rattle.rec_trace_run.specs.Traces.{shown_by, task_text};
-ghost use Rattle.rec_trace_run.specs.Inner.Telling.{
-  Begins,
-  IsTelling,
-  IsWithin,
-  end_text,
-  first_text,
-  is_passed,
-  told,
-};
+ghost use Rattle.rec_trace_run.specs.Inner.Telling.{IsTelling, IsTermOf, end_text, first_text};
 
+use crate::beginning::Beginning;
 use crate::firings::write_firings;
 use crate::page::Page;
 use crate::telling::Telling;
 use rec_engine::{Engine, EngineFault, Outcome};
 use rec_run::{RunOptions, engine_fault, is_limit};
-use rec_trace::{Look, Margins, Spot, Tracer, whole_line};
+use rec_trace::{Look, Margins, Spot, whole_line};
 use rx_run::{RunFault, put_numbered};
 use rx_term::TermBank;
 use rx_text::write;
@@ -103,56 +96,19 @@ fn write_end<B: TermBank, W: Write>(
     }
 }
 
-/// Writes the lines of a term's rewrites and of its outcome, and returns whether the step limit was
-/// too low.
-fn write_rest<B: TermBank, W: Write>(
-    engine: &mut Engine<B>,
-    tracer: &mut Tracer,
-    telling: &Telling<'_>,
-    notes: &[u8],
-    page: &mut Page<'_, '_, W>,
-) -> Result<bool, RunFault>
-    requires stands { Stands engine.old.spec (B.store engine.old.bank) tracer.old }
-    requires within { IsWithin telling.now.options.run.steps
-        (rest_of engine.old.spec (B.store engine.old.bank) tracer.old) }
-    requires telling { (source : List ℕ) × IsTelling source engine.old.spec telling.now }
-    ensures same { SameEngine engine.old engine.new }
-    ensures list { OnOk result (IsKept (B.store engine.new.bank) tracer.new.saved.list) }
-    ensures limit { IfOk result (λ limited. limited
-        ≡ is_passed (rest_of engine.old.spec (B.store engine.old.bank) tracer.old).outcome) }
-    ensures ok { OnOk result ((source : List ℕ) → IsTelling source engine.old.spec telling.now
-        → Prints W.contents page.old page.new
-        (told source (shown_by telling.now.options) telling.now.options.run.steps notes.now
-        (rest_of engine.old.spec (B.store engine.old.bank) tracer.old))) }
-    ensures err { IfErr result (λ fault. (source : List ℕ)
-        → IsTelling source engine.old.spec telling.now
-        → Breaks W.contents page.old page.new
-        (told source (shown_by telling.now.options) telling.now.options.run.steps notes.now
-        (rest_of engine.old.spec (B.store engine.old.bank) tracer.old)) fault) }
-    ensures reports { ReportsTrace B.store engine.new page.old page.new result }
-{
-    let outcome = write_firings(engine, tracer, telling, page)?;
-    write_end(engine.bank(), outcome, notes, telling, page)?;
-    Ok(is_limit(outcome))
-}
-
 /// Makes the line of a whole term before its first rewrite.
 fn first_line<B: TermBank>(
     engine: &mut Engine<B>,
-    tracer: &mut Tracer,
+    beginning: Beginning<'_>,
     telling: &Telling<'_>,
 ) -> Result<Vec<u8>, EngineFault>
-    requires { Stands engine.old.spec (B.store engine.old.bank) tracer.old }
+    requires { (t : Term) × IsTermOf engine.old.spec beginning t }
     ensures same { SameEngine engine.old engine.new }
     ensures room { RoomOnlyIfFull (B.store engine.new.bank) engine.new.memo result }
-    ensures stands { IfOk result
-        (λ line. Stands engine.old.spec (B.store engine.new.bank) tracer.new) }
-    ensures rest { IfOk result (λ line. rest_of engine.old.spec (B.store engine.new.bank) tracer.new
-        ≡ rest_of engine.old.spec (B.store engine.old.bank) tracer.old) }
-    ensures text { IfOk result (λ line. line.items ≡ whole_text 0 0 false
-        (shown_by telling.now.options).width 0
-        (whole_of engine.old.spec (B.store engine.old.bank) tracer.old)) }
+    ensures text { IfOk result (λ line. (t : Term) → IsTermOf engine.old.spec beginning.entry t
+        → line.items ≡ whole_text 0 0 false (shown_by telling.now.options).width 0 (tree_of t)) }
 {
+    let mut tracer = beginning.tracer(engine, telling)?;
     let whole = tracer.whole(telling.alloc, engine)?;
     let look = Look {
         counted: false,
@@ -164,7 +120,10 @@ fn first_line<B: TermBank>(
         look,
     };
     match whole_line(telling.alloc, engine.bank(), whole, margins) {
-        Ok(line) => Ok(line),
+        Ok(line) => {
+            tracer.end(engine);
+            Ok(line)
+        }
         Err(_) => Err(EngineFault::Memory),
     }
 }
@@ -172,68 +131,49 @@ fn first_line<B: TermBank>(
 /// Writes the line of a term before its first rewrite if whole terms are shown.
 fn write_first<B: TermBank, W: Write>(
     engine: &mut Engine<B>,
-    tracer: &mut Tracer,
+    beginning: Beginning<'_>,
     telling: &Telling<'_>,
     page: &mut Page<'_, '_, W>,
 ) -> Result<(), RunFault>
-    requires stands { Stands engine.old.spec (B.store engine.old.bank) tracer.old }
+    requires { (t : Term) × IsTermOf engine.old.spec beginning t }
     ensures same { SameEngine engine.old engine.new }
-    ensures stands { OnOk result
-        (Stands engine.old.spec (B.store engine.new.bank) tracer.new) }
-    ensures rest { OnOk result (rest_of engine.old.spec (B.store engine.new.bank) tracer.new
-        ≡ rest_of engine.old.spec (B.store engine.old.bank) tracer.old) }
-    ensures ok { OnOk result (Prints W.contents page.old page.new
-        (first_text (shown_by telling.now.options)
-        (whole_of engine.old.spec (B.store engine.old.bank) tracer.old))) }
-    ensures err { IfErr result (Breaks W.contents page.old page.new
-        (first_text (shown_by telling.now.options)
-        (whole_of engine.old.spec (B.store engine.old.bank) tracer.old))) }
+    ensures text { (t : Term) → IsTermOf engine.old.spec beginning.entry t
+        → WritesText W.contents page.old page.new
+        (first_text (shown_by telling.now.options) (tree_of t)) result }
     ensures reports { ReportsTrace B.store engine.new page.old page.new result }
 {
     if !telling.options.whole {
         return Ok(());
     }
-    match first_line(engine, tracer, telling) {
+    match first_line(engine, beginning, telling) {
         Ok(line) => page.print(&line),
         Err(fault) => Err(engine_fault(fault, page.lines)),
     }
 }
 
-/// Writes the trace of a term from a tracer at its beginning and from the text of its annotations,
-/// and returns whether the step limit was too low.
+/// Writes the trace of a term, with the text of its annotations, and returns whether the step limit
+/// was too low.
 pub(crate) fn write_trace<B: TermBank, W: Write>(
     engine: &mut Engine<B>,
-    tracer: Tracer,
+    beginning: Beginning<'_>,
     telling: &Telling<'_>,
     notes: &[u8],
     page: &mut Page<'_, '_, W>,
 ) -> Result<bool, RunFault>
-    requires begins { (t : Term) × Begins engine.old.spec (B.store engine.old.bank)
-        telling.now.options.run.steps tracer t }
+    requires beginning { (t : Term) × IsTermOf engine.old.spec beginning t }
     requires telling { (source : List ℕ) × IsTelling source engine.old.spec telling.now }
     ensures same { SameEngine engine.old engine.new }
     ensures limit { IfOk result (λ limited. (task : Task)
-        → Begins engine.old.spec (B.store engine.old.bank) telling.now.options.run.steps tracer
-        task.term → limited ≡ is_limited engine.old.spec Plain telling.now.options.run.steps task) }
-    ensures ok { OnOk result ((source : List ℕ) (task : Task)
-        → IsTelling source engine.old.spec telling.now
-        → Begins engine.old.spec (B.store engine.old.bank) telling.now.options.run.steps tracer
-        task.term → notes.now ≡ notes_text task.notes
-        → Prints W.contents page.old page.new
-        (task_text source engine.old.spec (shown_by telling.now.options)
-        telling.now.options.run.steps task)) }
-    ensures err { IfErr result (λ fault. (source : List ℕ) (task : Task)
-        → IsTelling source engine.old.spec telling.now
-        → Begins engine.old.spec (B.store engine.old.bank) telling.now.options.run.steps tracer
-        task.term → notes.now ≡ notes_text task.notes
-        → Breaks W.contents page.old page.new
-        (task_text source engine.old.spec (shown_by telling.now.options)
-        telling.now.options.run.steps task) fault) }
+        → IsTermOf engine.old.spec beginning.entry task.term
+        → limited ≡ is_limited engine.old.spec Plain telling.now.options.run.steps task) }
+    ensures text { (source : List ℕ) (task : Task) → IsTelling source engine.old.spec telling.now
+        → IsTermOf engine.old.spec beginning.entry task.term → notes.now ≡ notes_text task.notes
+        → WritesText W.contents page.old page.new (task_text source engine.old.spec
+        (shown_by telling.now.options) telling.now.options.run.steps task) result }
     ensures reports { ReportsTrace B.store engine.new page.old page.new result }
 {
-    let mut tracer = tracer;
-    write_first(engine, &mut tracer, telling, page)?;
-    let limited = write_rest(engine, &mut tracer, telling, notes, page)?;
-    tracer.end(engine);
-    Ok(limited)
+    write_first(engine, beginning, telling, page)?;
+    let outcome = write_firings(engine, beginning, telling, page)?;
+    write_end(engine.bank(), outcome, notes, telling, page)?;
+    Ok(is_limit(outcome))
 }

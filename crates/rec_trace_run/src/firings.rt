@@ -1,26 +1,26 @@
 //! The lines of all rewrites of a term's evaluation.
 
-ghost use Rattle.std.specs.Prelude.{◌≡◌, ◌≤◌, ◌++◌, ℕ, IfErr, IfOk, List, OnOk, codes, decimal};
+ghost use Rattle.std.specs.Prelude.{◌≡◌, ◌++◌, ℕ, IfErr, IfOk, List, OnOk, codes, decimal};
+ghost use Rattle.std.specs.Prelude.{length};
+ghost use Rattle.rec_syntax.specs.Syntax.{Term};
 ghost use Rattle.rec_engine.specs.Engine.{SameEngine};
 ghost use Rattle.rec_trace.specs.Lines.{joined};
-ghost use Rattle.rec_trace.specs.Lists.{IsKept};
-ghost use Rattle.rec_trace.specs.Tracing.{Stands, rest_of};
 ghost use Rattle.rec_trace_run.specs.Inner.Pages.{Breaks, Prints, ReportsPage, ReportsTrace};
-ghost use Rattle.rec_trace_run.specs.Picks.{Picks, by_threes, last_lines, more_line};
-ghost use Rattle.rec_trace_run.specs.Traces.{shown_by};
-ghost use Rattle.rec_trace_run.specs.Inner.Telling.{HasKept, IsEnd, IsTelling, IsWithin};
-ghost use Rattle.rec_trace_run.specs.Inner.Telling.{steps_lines, texts_of, told};
+ghost use Rattle.rec_trace_run.specs.Inner.Pages.{WritesText};
+ghost use Rattle.rec_trace_run.specs.Picks.{by_threes, more_line, picks_by, shown_lines};
+ghost use Rattle.rec_trace_run.specs.Inner.Telling.{EndsIn, IsTelling, IsTermOf, lines_of};
+ghost use Rattle.rec_trace_run.specs.Inner.Telling.{section_lines};
 
-use crate::kept::Kept;
+use crate::beginning::Beginning;
 use crate::page::Page;
+use crate::section::{Section, rest_of};
 use crate::steps::write_steps;
 use crate::telling::Telling;
 use rec_engine::{Engine, Outcome};
-use rec_trace::Tracer;
+use rec_run::engine_fault;
 use rx_run::{RunFault, put_numbered};
 use rx_term::TermBank;
 use std::alloc::{AllocError, Global};
-use std::collections::VecDeque;
 use std::io::Write;
 
 /// Appends digits to a line, with a `,` between groups of three, counted from the end.
@@ -72,68 +72,70 @@ fn write_more<W: Write>(
     }
 }
 
-/// Writes the lines that were kept.
-fn write_last<W: Write>(
-    last: &VecDeque<Vec<u8>>,
+/// Traces a term from its beginning, writes the lines of the selected rewrites of a section, counts
+/// all selected ones, and returns the outcome of the evaluation.
+fn write_section<B: TermBank, W: Write>(
+    engine: &mut Engine<B>,
+    beginning: Beginning<'_>,
+    telling: &Telling<'_>,
+    section: &mut Section,
     page: &mut Page<'_, '_, W>,
-) -> Result<(), RunFault>
-    ensures ok { OnOk result (Prints W.contents page.old page.new
-        (joined (texts_of last.now.items))) }
-    ensures err { IfErr result (Breaks W.contents page.old page.new
-        (joined (texts_of last.now.items))) }
-    ensures reports { ReportsPage page.old page.new result }
+) -> Result<Outcome, RunFault>
+    requires beginning { (t : Term) × IsTermOf engine.old.spec beginning t }
+    requires telling { (source : List ℕ) × IsTelling source engine.old.spec telling.now }
+    requires none { section.old.seen ≡ 0 }
+    ensures same { SameEngine engine.old engine.new }
+    ensures end { IfOk result (λ outcome. (t : Term) → IsTermOf engine.old.spec beginning.entry t
+        → EndsIn engine.old.spec (B.store engine.new.bank) telling.now.options.run.steps t
+        outcome) }
+    ensures seen { OnOk result ((source : List ℕ) (t : Term)
+        → IsTelling source engine.old.spec telling.now
+        → IsTermOf engine.old.spec beginning.entry t
+        → section.new.seen ≡ length (lines_of source engine.old.spec telling.now.options t)) }
+    ensures text { (source : List ℕ) (t : Term) → IsTelling source engine.old.spec telling.now
+        → IsTermOf engine.old.spec beginning.entry t → WritesText W.contents page.old page.new
+        (joined (section_lines section.old (lines_of source engine.old.spec telling.now.options
+        t))) result }
+    ensures reports { ReportsTrace B.store engine.new page.old page.new result }
 {
-    for i in 0..last.len() {
-        page.print(&last[i])?;
-    }
-    Ok(())
+    let mut tracer = match beginning.tracer(engine, telling) {
+        Ok(tracer) => tracer,
+        Err(fault) => return Err(engine_fault(fault, page.lines)),
+    };
+    let outcome = write_steps(engine, &mut tracer, telling, section, page)?;
+    tracer.end(engine);
+    Ok(outcome)
 }
 
-/// Writes all that follows the lines at the beginning: how many are left out, and the kept lines.
-fn write_kept<W: Write>(
-    alloc: Global,
-    kept: &Kept,
-    page: &mut Page<'_, '_, W>,
-) -> Result<(), RunFault>
-    ensures ok { OnOk result ((p : Picks) (ls : List (List ℕ)) → HasKept p ls kept.now
-        → Prints W.contents page.old page.new (joined (last_lines p ls))) }
-    ensures err { IfErr result (λ fault. (p : Picks) (ls : List (List ℕ)) → HasKept p ls kept.now
-        → Breaks W.contents page.old page.new (joined (last_lines p ls)) fault) }
-    ensures reports { ReportsPage page.old page.new result }
-{
-    write_more(alloc, kept.left_out, page)?;
-    write_last(&kept.last, page)
-}
-
-/// Writes the lines of all rewrites of a term, and returns the outcome of its evaluation.
+/// Writes the lines of all rewrites of a term that are shown, and returns the outcome of its
+/// evaluation. If some are shown at the end, the term is traced twice: their number is known only
+/// after the first time.
 pub(crate) fn write_firings<B: TermBank, W: Write>(
     engine: &mut Engine<B>,
-    tracer: &mut Tracer,
+    beginning: Beginning<'_>,
     telling: &Telling<'_>,
     page: &mut Page<'_, '_, W>,
 ) -> Result<Outcome, RunFault>
-    requires stands { Stands engine.old.spec (B.store engine.old.bank) tracer.old }
-    requires within { IsWithin telling.now.options.run.steps
-        (rest_of engine.old.spec (B.store engine.old.bank) tracer.old) }
+    requires beginning { (t : Term) × IsTermOf engine.old.spec beginning t }
     requires telling { (source : List ℕ) × IsTelling source engine.old.spec telling.now }
     ensures same { SameEngine engine.old engine.new }
-    ensures list { IfOk result
-        (λ outcome. IsKept (B.store engine.new.bank) tracer.new.saved.list) }
-    ensures end { IfOk result (IsEnd (B.store engine.new.bank) telling.now.options.run.steps
-        (rest_of engine.old.spec (B.store engine.old.bank) tracer.old).outcome) }
-    ensures ok { OnOk result ((source : List ℕ) → IsTelling source engine.old.spec telling.now
-        → Prints W.contents page.old page.new
-        (steps_lines source (shown_by telling.now.options) telling.now.options.run.steps
-        (rest_of engine.old.spec (B.store engine.old.bank) tracer.old).firings)) }
-    ensures err { IfErr result (λ fault. (source notes : List ℕ)
-        → IsTelling source engine.old.spec telling.now
-        → Breaks W.contents page.old page.new
-        (told source (shown_by telling.now.options) telling.now.options.run.steps notes
-        (rest_of engine.old.spec (B.store engine.old.bank) tracer.old)) fault) }
+    ensures end { IfOk result (λ outcome. (t : Term) → IsTermOf engine.old.spec beginning.entry t
+        → EndsIn engine.old.spec (B.store engine.new.bank) telling.now.options.run.steps t
+        outcome) }
+    ensures text { (source : List ℕ) (t : Term) → IsTelling source engine.old.spec telling.now
+        → IsTermOf engine.old.spec beginning.entry t → WritesText W.contents page.old page.new
+        (joined (shown_lines (picks_by telling.now.options.picked)
+        (lines_of source engine.old.spec telling.now.options t))) result }
     ensures reports { ReportsTrace B.store engine.new page.old page.new result }
 {
-    let mut kept = Kept::new(telling.alloc, telling.options.picked);
-    let outcome = write_steps(engine, tracer, telling, &mut kept, page)?;
-    write_kept(telling.alloc, &kept, page)?;
-    Ok(outcome)
+    let picked = telling.options.picked;
+    let mut front = Section::front(picked);
+    let outcome = write_section(engine, beginning, telling, &mut front, page)?;
+    let rest = rest_of(picked, front.seen);
+    write_more(telling.alloc, rest.left_out, page)?;
+    if rest.from == front.seen {
+        return Ok(outcome);
+    }
+    let mut back = Section::back(rest.from);
+    write_section(engine, beginning, telling, &mut back, page)
 }

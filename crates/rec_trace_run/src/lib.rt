@@ -26,22 +26,23 @@
 //! again. The module [`laws`] relates the lines of traces to those of evaluation.
 //!
 //! **Cost.** Each text is read whole before anything is evaluated. The line of a rewrite is made
-//! only if it is written or kept for the end, and [`Picked::last`] bounds the number of lines that
-//! are kept.
+//! only if it is written, and no line is kept. A term with lines at the end is traced twice: the
+//! first time counts its selected rewrites.
 #![tactic(auto)]
 
+mod beginning;
 mod due;
 mod ending;
 mod fired;
 mod firings;
 mod given;
-mod kept;
 pub mod laws;
 mod next;
 mod options;
 mod page;
 mod picked;
 mod runs;
+mod section;
 mod steps;
 mod telling;
 mod terms;

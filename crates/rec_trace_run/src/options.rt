@@ -4,7 +4,7 @@ ghost use Rattle.std.specs.Prelude.{◌≡◌};
 ghost use Rattle.rec_trace_run.specs.Traces.{shown_by};
 
 use crate::picked::Picked;
-use rec_run::RunOptions;
+use rec_run::{RunOptions, TermChoice};
 use rec_trace::Look;
 use std::alloc::Global;
 
@@ -23,6 +23,8 @@ pub struct TraceOptions<'a> {
     pub width: Option<u32>,
     /// The selection of the rewrites that are shown.
     pub picked: Picked<'a>,
+    /// The terms that are traced.
+    pub terms: TermChoice,
 }
 
 impl TraceOptions<'_> {

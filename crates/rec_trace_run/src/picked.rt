@@ -24,8 +24,8 @@ pub struct Picked<'a> {
     /// The number of selected rewrites that are shown at the beginning. With `None`, all are shown
     /// if `last` is also `None`, otherwise none at the beginning.
     pub first: Option<u64>,
-    /// The number of other selected rewrites that are shown at the end. Between two rewrites, at
-    /// most this number of lines is kept in memory.
+    /// The number of other selected rewrites that are shown at the end. For these, the term is
+    /// traced a second time.
     pub last: Option<u32>,
 }
 

@@ -6,7 +6,7 @@ ghost use Rattle.rx_text.specs.Output.{contents_of};
 ghost use Rattle.rx_run.specs.Run.{BreaksFor, ConcludesFor, IsReadOut};
 ghost use Rattle.rx_run.specs.Streams.{ReportsWrite};
 ghost use Rattle.rec_run.specs.GivenTerms.{OnGoodSpec, OnRefusedSpec};
-ghost use Rattle.rec_run.specs.Reports.{HasLimitLines};
+ghost use Rattle.rec_run.specs.Reports.{HasLimitLines, HasLines};
 ghost use Rattle.rec_run.specs.Run.{HasRoom, ReportsReadsOf, both_texts};
 ghost use Rattle.rec_run.specs.declared.options.ValueForm.TheVariants.{Plain};
 ghost use Rattle.rec_trace_run.specs.Inner.Pages.{FullIfRoom};
@@ -22,11 +22,11 @@ use std::alloc::Global;
 use std::io::{Read, Write};
 
 /// Reads a specification and, if it is accepted and there are input terms, their text. Writes the
-/// trace of each term of both, or the line of an error, and flushes. Each rewrite that is shown at
-/// the beginning is written as soon as its rule is applied. The last line of a term is the one that
-/// evaluation writes.
+/// trace of each term of both that `options.terms` selects, or the line of an error, and flushes.
+/// Each rewrite that is shown at the beginning is written as soon as its rule is applied. The last
+/// line of a term is the one that evaluation writes.
 ///
-/// The report has the ending of the run and the number of its limit lines. After an error while a
+/// The report has the ending of the run and the numbers of lines of evaluation and of limit lines. After an error while a
 /// text is read, nothing has been written. The state of the readers after an error is not
 /// specified. A rejected specification needs no cells.
 pub fn run_trace<R: Read, G: InputTerms, W: Write>(
@@ -40,8 +40,11 @@ pub fn run_trace<R: Read, G: InputTerms, W: Write>(
         (IsTraceDueFor (shown_by options.entry) options.entry.run.steps)
         (both_texts (R.remaining spec.old) (G.text terms.old))
         report.ending (W.contents out.old) (W.contents out.new)) }
-    ensures limits { IfOk result (λ report. HasLimitLines Plain options.entry.run.steps
-        (both_texts (R.remaining spec.old) (G.text terms.old)) report.limit_lines) }
+    ensures lines { IfOk result (λ report. HasLines options.entry.terms
+        (both_texts (R.remaining spec.old) (G.text terms.old)) report.lines) }
+    ensures limits { IfOk result (λ report. HasLimitLines options.entry.terms Plain
+        options.entry.run.steps (both_texts (R.remaining spec.old) (G.text terms.old))
+        report.limit_lines) }
     ensures fault { IfErr result (λ fault. BreaksFor
         (IsTraceDueFor (shown_by options.entry) options.entry.run.steps)
         (both_texts (R.remaining spec.old) (G.text terms.old))
@@ -76,8 +79,11 @@ fn trace_over<B: TermBank + Drop, R: Read, G: InputTerms, W: Write>(
         (IsTraceDueFor (shown_by setup.entry.options) setup.entry.options.run.steps)
         (both_texts (R.remaining spec.old) (G.text terms.old))
         report.ending (W.contents out.old) (W.contents out.new)) }
-    ensures limits { IfOk result.end (λ report. HasLimitLines Plain setup.entry.options.run.steps
-        (both_texts (R.remaining spec.old) (G.text terms.old)) report.limit_lines) }
+    ensures lines { IfOk result.end (λ report. HasLines setup.entry.options.terms
+        (both_texts (R.remaining spec.old) (G.text terms.old)) report.lines) }
+    ensures limits { IfOk result.end (λ report. HasLimitLines setup.entry.options.terms Plain
+        setup.entry.options.run.steps (both_texts (R.remaining spec.old) (G.text terms.old))
+        report.limit_lines) }
     ensures fault { IfErr result.end (λ fault. BreaksFor
         (IsTraceDueFor (shown_by setup.entry.options) setup.entry.options.run.steps)
         (both_texts (R.remaining spec.old) (G.text terms.old))
@@ -111,8 +117,11 @@ fn given_over<B: TermBank + Drop, R: Read, G: InputTerms, W: Write>(
         (IsTraceDueFor (shown_by setup.entry.options) setup.entry.options.run.steps)
         (both_texts (remaining_in R.remaining spec.old) (G.text terms.old))
         report.ending (contents_of W.contents out.old) (contents_of W.contents out.new)) }
-    ensures limits { IfOk result.end (λ report. HasLimitLines Plain setup.entry.options.run.steps
-        (both_texts (remaining_in R.remaining spec.old) (G.text terms.old)) report.limit_lines) }
+    ensures lines { IfOk result.end (λ report. HasLines setup.entry.options.terms
+        (both_texts (remaining_in R.remaining spec.old) (G.text terms.old)) report.lines) }
+    ensures limits { IfOk result.end (λ report. HasLimitLines setup.entry.options.terms Plain
+        setup.entry.options.run.steps (both_texts (remaining_in R.remaining spec.old) (G.text terms.old))
+        report.limit_lines) }
     ensures fault { IfErr result.end (λ fault. BreaksFor
         (IsTraceDueFor (shown_by setup.entry.options) setup.entry.options.run.steps)
         (both_texts (remaining_in R.remaining spec.old) (G.text terms.old))

@@ -8,7 +8,10 @@ use crate::mapped::Mapped;
 use crate::report::Outcome;
 use crate::screen::Look;
 use rec_check::{Diagnostic, Examination, Judgement, Kind, Rule, examine, run_check};
-use recw_cli::{CheckOptions, Finding, Form, Listed, STANDARD_INPUT, TextName, list_findings};
+use rec_join::{JoinFault, Joined};
+use recw_cli::{
+    CheckOptions, Finding, Form, Listed, PartPlace, STANDARD_INPUT, TextName, list_findings,
+};
 use rx_run::{Reason, RunFault, read_all_from};
 use rx_text::Input;
 use std::alloc::{AllocError, Global};
@@ -48,7 +51,7 @@ pub fn check<H: Files, R: Read, W: Write>(
             check_file(sources, path, out, evidence)?
         } else {
             let last = read_named(sources, path, evidence)?;
-            check_after(evidence.alloc, &mut texts, last, out)?
+            check_after(evidence, &mut texts, last, out)?
         };
         if is_faulty(judgement, options.is_strict) {
             outcome = Outcome::Faulty;
@@ -82,7 +85,7 @@ fn is_faulty(judgement: Judgement, is_strict: bool) -> bool {
 /// Checks the specification that these texts and a last one are together. The texts stay as they
 /// are.
 fn check_after<'a, W: Write>(
-    alloc: Global,
+    evidence: &Evidence<'_>,
     texts: &mut Vec<NamedText<'a>>,
     last: NamedText<'a>,
     out: &mut W,
@@ -90,7 +93,7 @@ fn check_after<'a, W: Write>(
     if texts.push(last).is_err() {
         return Err(RunFault::Memory { lines: 0 });
     }
-    let judgement = check_joined(alloc, texts, out);
+    let judgement = check_joined(evidence.alloc, texts, evidence.form, out);
     texts.pop();
     judgement
 }
@@ -99,10 +102,11 @@ fn check_after<'a, W: Write>(
 fn check_joined<W: Write>(
     alloc: Global,
     texts: &[NamedText<'_>],
+    form: Form,
     out: &mut W,
 ) -> Result<Judgement, RunFault> {
-    match joined_of(alloc, texts) {
-        Ok(joined) => {
+    match (joined_of(alloc, texts), form) {
+        (Ok(joined), Form::Lines) => {
             let mut lines = Vec::new(alloc);
             let text = joined.syntax.source();
             let judgement = rec_check::check_text(alloc, b"", text, &mut lines)?;
@@ -112,11 +116,129 @@ fn check_joined<W: Write>(
             }
             Ok(judgement)
         }
-        Err(fault) => {
+        (Ok(joined), form) => list_joined(alloc, joined, texts, form, out),
+        (Err(fault), Form::Lines) => {
             tell_fault(alloc, &fault, texts, out)?;
             Ok(Judgement::Refused)
         }
+        (Err(fault), form) => list_fault(alloc, &fault, texts, form, out),
     }
+}
+
+/// Writes the findings in a joined text in a form other than lines.
+fn list_joined<W: Write>(
+    alloc: Global,
+    joined: Joined,
+    texts: &[NamedText<'_>],
+    form: Form,
+    out: &mut W,
+) -> Result<Judgement, RunFault> {
+    let Examination {
+        judgement,
+        mut diagnostics,
+    } = examine(alloc, joined.syntax.source())?;
+    let mapped = Mapped::new(alloc, &joined, texts)?;
+    for diagnostic in diagnostics.iter_mut() {
+        diagnostic.shown = mapped.located_detail(alloc, diagnostic.kind, &diagnostic.shown)?;
+    }
+    let findings = placed_findings(alloc, &diagnostics, &mapped)?;
+    let listed = Listed {
+        name: TextName::Path(JOINED),
+        text: joined.syntax.source(),
+        expected: &[],
+    };
+    match list_findings(alloc, &listed, &findings, form, out) {
+        Ok(()) => Ok(judgement),
+        Err(_) => Err(RunFault::Write),
+    }
+}
+
+/// Returns diagnostics in a joined text as they are listed, with their locations in the parts.
+fn placed_findings<'f>(
+    alloc: Global,
+    diagnostics: &'f [Diagnostic],
+    mapped: &Mapped<'f>,
+) -> Result<Vec<Finding<'f>>, AllocError> {
+    let mut findings = Vec::new(alloc);
+    for diagnostic in diagnostics {
+        let place = mapped.place(diagnostic.at);
+        findings.push(finding_of(diagnostic, place))?;
+    }
+    Ok(findings)
+}
+
+/// Writes why texts cannot be joined, in a form other than lines.
+fn list_fault<W: Write>(
+    alloc: Global,
+    fault: &JoinFault,
+    texts: &[NamedText<'_>],
+    form: Form,
+    out: &mut W,
+) -> Result<Judgement, RunFault> {
+    match *fault {
+        JoinFault::Empty => Ok(Judgement::Good),
+        JoinFault::Memory => Err(RunFault::Memory { lines: 0 }),
+        JoinFault::TooLong => list_alone(alloc, &TOO_LONG, form, out),
+        JoinFault::Mismatch => list_alone(alloc, &MISMATCH, form, out),
+        JoinFault::Long { part } | JoinFault::Grammar { part, .. } => match texts.get(part) {
+            Some(text) => list_part(alloc, text, form, out),
+            None => Ok(Judgement::Refused),
+        },
+    }
+}
+
+/// The name of a joined text.
+const JOINED: &str = "<joined>";
+
+/// The finding in a joined text that is too long.
+const TOO_LONG: Finding<'static> = Finding {
+    at: 0,
+    end: 0,
+    place: None,
+    reason: Some(Reason::Long),
+    code: b"L1",
+    label: b"the joined text has more than 16777216 bytes",
+    shown: b"",
+};
+
+/// The finding in a joined text that differs from its parts, which is a defect of the program.
+const MISMATCH: Finding<'static> = Finding {
+    at: 0,
+    end: 0,
+    place: None,
+    reason: Some(Reason::Long),
+    code: b"",
+    label: b"the joined text differs from its parts: a defect",
+    shown: b"",
+};
+
+/// Writes one finding about files that cannot be joined.
+fn list_alone<W: Write>(
+    alloc: Global,
+    finding: &Finding<'_>,
+    form: Form,
+    out: &mut W,
+) -> Result<Judgement, RunFault> {
+    let listed = Listed {
+        name: TextName::Path(JOINED),
+        text: b"",
+        expected: &[],
+    };
+    match list_findings(alloc, &listed, &[*finding], form, out) {
+        Ok(()) => Ok(Judgement::Refused),
+        Err(_) => Err(RunFault::Write),
+    }
+}
+
+/// Writes the findings in one of several texts, which is no specification.
+fn list_part<W: Write>(
+    alloc: Global,
+    part: &NamedText<'_>,
+    form: Form,
+    out: &mut W,
+) -> Result<Judgement, RunFault> {
+    let mut spec = part.text.as_slice();
+    write_findings(alloc, name_of(part.path), form, &mut spec, out)
 }
 
 /// Checks the specification in a file or on standard input.
@@ -188,7 +310,7 @@ fn write_findings<R: Read, W: Write>(
 fn findings_of(alloc: Global, diagnostics: &[Diagnostic]) -> Result<Vec<Finding<'_>>, AllocError> {
     let mut findings = Vec::new(alloc);
     for diagnostic in diagnostics {
-        findings.push(finding_of(diagnostic))?;
+        findings.push(finding_of(diagnostic, None))?;
     }
     Ok(findings)
 }
@@ -207,12 +329,13 @@ fn expected_at(alloc: Global, findings: &[Finding<'_>], text: &[u8]) -> Option<V
     expected_words(alloc, reason?, text, at)
 }
 
-/// Returns a diagnostic as it is listed.
-fn finding_of(diagnostic: &Diagnostic) -> Finding<'_> {
+/// Returns a diagnostic as it is listed, with its location in a part of the text.
+fn finding_of<'f>(diagnostic: &'f Diagnostic, place: Option<PartPlace<'f>>) -> Finding<'f> {
     let Diagnostic { at, end, kind, .. } = *diagnostic;
     Finding {
         at,
         end,
+        place,
         reason: reason_of(kind, at),
         code: kind.code(),
         label: kind.label(),

@@ -3,12 +3,15 @@
 use crate::expected::expected_words;
 use crate::input::{Input, open, open_file};
 use crate::item::{element_of_terms, item_of_args};
+use crate::numbered::TermNumber;
 use crate::recorded::Recorded;
 use crate::report::Outcome;
 use crate::screen::Look;
+use rec_syntax::read_spec;
 use recw_cli::{
-    Form, Given, Invocation, Item, NamedRefusal, Request, STANDARD_INPUT, TextName, Texts, Which,
-    explain_given, explain_part, explain_place, explain_trouble, explain_whole,
+    Form, Given, Invocation, Item, NamedRefusal, Request, STANDARD_INPUT, TermChoice, TextName,
+    Texts, Unnamed, Which, count_terms, explain_given, explain_part, explain_place,
+    explain_trouble, explain_whole,
 };
 use rx_run::{Ending, Reason, Refusal, RunFault, Source};
 use std::alloc::Global;
@@ -52,6 +55,12 @@ pub struct Evidence<'a> {
     pub limit_lines: u64,
     /// The lines that report stuck calls.
     pub calls: Vec<u8>,
+    /// The usage error, if an option names something that does not exist.
+    pub wrong: Vec<u8>,
+    /// The lines of `--rules`.
+    pub rules: Vec<u8>,
+    /// Whether it is known that the evaluation of a term was started.
+    pub has_begun: bool,
     /// The stream that failed, and the reason.
     trouble: Option<Trouble<'a>>,
 }
@@ -72,6 +81,9 @@ impl<'a> Evidence<'a> {
             is_match: false,
             limit_lines: 0,
             calls: Vec::new(alloc),
+            wrong: Vec::new(alloc),
+            rules: Vec::new(alloc),
+            has_begun: false,
             trouble: None,
         }
     }
@@ -139,9 +151,63 @@ impl<'a> Evidence<'a> {
         }
     }
 
-    /// Returns a reader that records its text if errors are explained.
+    /// Returns a reader that records its text if errors are explained, or the terms of the run may
+    /// have to be counted.
     pub fn record<'r, R: Read>(&self, input: &'r mut R) -> Recorded<'r, R> {
-        Recorded::new(self.alloc, input, self.is_curious)
+        let is_kept = self.is_curious || self.chosen_term().is_some();
+        Recorded::new(self.alloc, input, is_kept)
+    }
+
+    /// Returns the number of the term that alone is evaluated, if there is one.
+    fn chosen_term(&self) -> Option<u64> {
+        match self.invocation.request {
+            Request::Eval { options, .. } | Request::Trace { options, .. } => match options.terms {
+                TermChoice::Nth(number) => Some(number),
+                _ => None,
+            },
+            _ => None,
+        }
+    }
+
+    /// Returns the number of terms of the run, if its texts were recorded.
+    fn term_count(&self) -> Option<u64> {
+        let syntax = read_spec(self.alloc, &self.first).ok()?;
+        let invocation = self.invocation;
+        let input = if !invocation.given.is_empty() {
+            invocation.given.len() as u64
+        } else if invocation.request.terms_path().is_none() {
+            0
+        } else if self.second.is_empty() {
+            return None;
+        } else {
+            count_terms(&self.second)
+        };
+        Some(input.saturating_add(syntax.terms().len() as u64))
+    }
+
+    /// Records the usage error of a run without lines, if one term was to be evaluated: there is no
+    /// such term.
+    pub fn note_missing(&mut self) -> Result<(), RunFault> {
+        let Some(number) = self.chosen_term() else {
+            return Ok(());
+        };
+        let count = self.term_count();
+        let mut wrong = Vec::new(self.alloc);
+        match (Unnamed::Term { number, count }).write(&mut wrong) {
+            Ok(()) => {
+                self.wrong = wrong;
+                Ok(())
+            }
+            Err(_) => Err(RunFault::Memory { lines: 0 }),
+        }
+    }
+
+    /// Returns the outcome of a run that ended so.
+    pub fn outcome_of(&self, ending: Ending) -> Outcome {
+        match ending {
+            Ending::Done if !self.wrong.is_empty() => Outcome::Unnamed,
+            _ => Outcome::from(ending),
+        }
     }
 
     /// Returns the text that was read under this name. If a read failed, records the name and the
@@ -217,8 +283,29 @@ impl<'a> Evidence<'a> {
         match end {
             Ok(Outcome::Refused(refusal)) => self.explain_refusal(refusal, out),
             Err(RunFault::Read | RunFault::Write) => self.explain_trouble(out),
-            Err(RunFault::Room { .. }) => { explain_room(self.invocation.request, out) }
-            Err(RunFault::Deep { .. }) => explain_depth(self.invocation.request, out),
+            Err(RunFault::Room { lines }) => {
+                self.write_term(lines, out)?;
+                explain_room(self.invocation.request, out)
+            }
+            Err(RunFault::Deep { lines }) => {
+                self.write_term(lines, out)?;
+                explain_depth(self.invocation.request, out)
+            }
+            _ => Ok(()),
+        }
+    }
+
+    /// Writes the number of the term whose evaluation failed, after this number of lines, if it is
+    /// known that it was not the reading of the input terms that failed.
+    fn write_term<W: Write>(&self, lines: u64, out: &mut W) -> io::Result<()> {
+        let invocation = self.invocation;
+        let reads_terms = invocation.request.terms_path().is_some() || !invocation.given.is_empty();
+        match invocation.request {
+            Request::Eval { options, .. } | Request::Trace { options, .. }
+                if lines > 0 || self.has_begun || !reads_terms => {
+                let term = TermNumber::first(options.terms).after(lines);
+                write!(out, "{term}: ")
+            }
             _ => Ok(()),
         }
     }
@@ -237,7 +324,7 @@ impl<'a> Evidence<'a> {
                 self.explain_at(named, self.text_of(source), place.at as usize, out)
             }
             (None, Source::Terms) => self.explain_terms(named, out),
-            (None, _) => { explain_whole(named, self.text_of(source), self.item_of(source), out) }
+            (None, _) => { explain_whole(named, self.text_of(source), self.item_of(refusal), out) }
         }
     }
 
@@ -286,11 +373,22 @@ impl<'a> Evidence<'a> {
     }
 
     /// Returns the list item that causes an error, if the text is a list and the item can be found.
-    fn item_of(&self, source: Source) -> Option<Item> {
-        match (source, self.invocation.request) {
-            (Source::Args, Request::Make { pattern, args }) => {
-                item_of_args(self.alloc, pattern.as_bytes(), args.as_bytes())
-            }
+    fn item_of(&self, refusal: Refusal) -> Option<Item> {
+        match (refusal, self.invocation.request) {
+            (
+                Refusal {
+                    reason: Reason::Element { number },
+                    ..
+                },
+                _,
+            ) => Some(Item::Element { at: number }),
+            (
+                Refusal {
+                    text: Source::Args,
+                    ..
+                },
+                Request::Make { pattern, args },
+            ) => item_of_args(self.alloc, pattern.as_bytes(), args.as_bytes()),
             _ => None,
         }
     }

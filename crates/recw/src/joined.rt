@@ -49,6 +49,7 @@ fn tell_none<W: Write>(
     }
     Ok(RunReport {
         ending: LONG,
+        lines: 0,
         limit_lines: 0,
     })
 }

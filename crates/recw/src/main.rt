@@ -13,9 +13,11 @@
 //! | Modules | Subject |
 //! |---|---|
 //! | `program`, `work`, `check`, `uses`, `join`, `joined`, `serve` | the commands and their files |
-//! | `mapped` | the lines of `check --join` |
+//! | `mapped` | the findings of `check --join` |
 //! | `evidence`, `recorded`, `expected`, `item` | texts and errors of a run, for `--explain` |
 //! | `report`, `profile`, `progress`, `prompts`, `screen` | messages on standard error |
+//! | `drawn` | graphs of results |
+//! | `calls`, `legend`, `numbered` | stuck calls, rules of a trace, and terms in these messages |
 //! | `options`, `given`, `input` | conversions from the command line |
 //!
 //! **Invariants.** All named files are opened before anything is read, except that `check`, `join`
@@ -30,7 +32,9 @@
 //! describes.
 #![tactic(auto)]
 
+mod calls;
 mod check;
+mod drawn;
 mod evidence;
 mod expected;
 mod given;
@@ -38,7 +42,9 @@ mod input;
 mod item;
 mod join;
 mod joined;
+mod legend;
 mod mapped;
+mod numbered;
 mod options;
 mod profile;
 mod program;

@@ -1,8 +1,11 @@
-//! The lines of `check` for a joined text, with the locations in its parts.
+//! The findings of `check` in a joined text, with the locations in its parts.
 
+use crate::check::name_of;
 use crate::join::NamedText;
+use rec_check::Kind;
 use rec_join::{Joined, Origin};
 use rec_syntax::{Declaration, Span, Syntax};
+use recw_cli::PartPlace;
 use rx_run::RunFault;
 use std::alloc::{AllocError, Global};
 use std::io;
@@ -151,13 +154,19 @@ fn first_symbol(syntax: &Syntax, word: &[u8]) -> Option<Span> {
     }
 }
 
+/// Returns the code in its brackets at the end of a line.
+fn code_in(end: &[u8]) -> &[u8] {
+    let code = end.strip_prefix(b" [").unwrap_or(end);
+    code.strip_suffix(b"]").unwrap_or(code)
+}
+
 /// Returns the first declaration of a word that is declared twice, by the code of the error.
 fn first_declaration(syntax: &Syntax, code: &[u8], word: &[u8]) -> Option<Span> {
-    if code == b" [S1]".as_slice() {
+    if code == b"S1".as_slice() {
         first_sort(syntax, word)
-    } else if code == b" [S2]".as_slice() {
+    } else if code == b"S2".as_slice() {
         first_symbol(syntax, word)
-    } else if code == b" [S3]".as_slice() {
+    } else if code == b"S3".as_slice() {
         match first_symbol(syntax, word) {
             None => first_variable(syntax, word),
             found => found,
@@ -223,12 +232,53 @@ impl<'a> Mapped<'a> {
         let length = detail.len().saturating_sub(5);
         let (word, code) = detail.split_at(length.min(detail.len()));
         out.write_all(before)?;
-        out.write_all(word)?;
-        if let Some(first) = first_declaration(&self.joined.syntax, code, word) {
-            out.write_all(b": ")?;
-            self.write_offset(first.from, out)?;
-        }
+        self.write_word(code_in(code), word, out)?;
         out.write_all(code)
+    }
+
+    /// Writes the word that a finding is about, and the location of its first declaration if it is
+    /// declared twice.
+    fn write_word<W: Write>(&self, code: &[u8], word: &[u8], out: &mut W) -> io::Result<()> {
+        out.write_all(word)?;
+        match first_declaration(&self.joined.syntax, code, word) {
+            Some(first) => {
+                out.write_all(b": ")?;
+                self.write_offset(first.from, out)
+            }
+            None => Ok(()),
+        }
+    }
+
+    /// Returns the detail of a finding, with locations in the parts.
+    pub fn located_detail(
+        &self,
+        alloc: Global,
+        kind: Kind,
+        detail: &[u8],
+    ) -> Result<Vec<u8>, AllocError> {
+        let mut located = Vec::new(alloc);
+        let written = match read_spot(detail) {
+            Some((spot, _)) => self.write_spot(spot, &mut located),
+            None => self.write_word(kind.code(), detail, &mut located),
+        };
+        match written {
+            Ok(()) => Ok(located),
+            Err(_) => Err(AllocError),
+        }
+    }
+
+    /// Returns the location of an offset of the joined text in its part, if it is of one.
+    pub fn place(&self, at: usize) -> Option<PartPlace<'a>> {
+        let Origin { part, at } = self.joined.origin(at)?;
+        let text = self.texts.get(part)?;
+        let Spot { line, column } = self.parts.get(part)?.spot(at);
+        Some(PartPlace {
+            name: name_of(text.path),
+            text: &text.text,
+            line,
+            begin: at.saturating_sub(column.saturating_sub(1)),
+            at,
+        })
     }
 
     /// Writes a line of `check` with the locations in the parts.

@@ -1,6 +1,6 @@
 //! Conversion of command-line options to the options of runs.
 
-use rec_run::{LimitLines, RunOptions, RunSettings, ValueForm};
+use rec_run::{LimitLines, RunOptions, RunSettings, TermChoice, ValueForm};
 use rec_serve::ServeSettings;
 use rec_trace_run::{Picked, TraceOptions};
 use recw_cli::{EvalOptions, RulePlace, Shown};
@@ -28,8 +28,18 @@ fn limit_lines(options: EvalOptions) -> LimitLines {
 /// Returns the form of values.
 fn value_form(options: EvalOptions) -> ValueForm {
     match options.bytes {
+        _ if options.to_table => ValueForm::Table,
         Some(most) => ValueForm::Within(most),
         None => ValueForm::Plain,
+    }
+}
+
+/// Returns the choice of the terms that are evaluated.
+fn term_choice(options: EvalOptions) -> TermChoice {
+    match options.terms {
+        recw_cli::TermChoice::All => TermChoice::All,
+        recw_cli::TermChoice::Input => TermChoice::Input,
+        recw_cli::TermChoice::Nth(number) => TermChoice::Nth(number),
     }
 }
 
@@ -39,7 +49,9 @@ pub fn run_settings(options: EvalOptions) -> RunSettings {
         options: run_options(options),
         limits: limit_lines(options),
         form: value_form(options),
+        sizes: options.sizes,
         depth: options.depth,
+        terms: term_choice(options),
     }
 }
 
@@ -68,6 +80,7 @@ pub fn trace_options(options: EvalOptions, shown: Shown<'_>) -> TraceOptions<'_>
         whole: shown.whole,
         width: shown.width,
         picked: picks(shown),
+        terms: term_choice(options),
     }
 }
 

@@ -1,12 +1,14 @@
 //! From parsed arguments to the exit status.
 
+use crate::calls::{Counted, Parted, numbered_lines};
 use crate::check::check;
+use crate::drawn::{GraphReport, Graphs};
 use crate::evidence::Evidence;
 use crate::given::given_by;
 use crate::input::{Sources, open_given};
 use crate::join::join;
 use crate::joined::evaluate_joined;
-use crate::profile::Profile;
+use crate::profile::{Profile, Starts};
 use crate::prompts::Typed;
 use crate::recorded::RecordedWriter;
 use crate::report::{Outcome, tell_end};
@@ -14,15 +16,17 @@ use crate::screen::Screen;
 use crate::serve::serve;
 use crate::uses::list_uses;
 use crate::work::{Calls, Firings, Values, Work};
-use rec_run::{NoTerms, Observer, RunReport, Unwatched};
+use rec_run::{NoTerms, Observer, RunReport, Unwatched, Watch};
 use rec_stuck::StuckReport;
 use recw_cli::status::{eval_status, match_status};
 use recw_cli::{Asked, EvalOptions, Invocation, Request, STANDARD_INPUT, read_words};
 use rx_render::{Indentation, run_aterm_indented, run_share_dot};
-use rx_run::{Ending, RunFault, Source, make_term, match_term, print_term, share_term};
-use rx_text::Input;
-use std::alloc::Global;
+use rx_run::{Ending, RunFault, Source, make_term, match_term, print_term, run_on_term};
+use rx_text::{Input, Output};
+use std::alloc::{AllocError, Global};
+use std::cell::Cell;
 use std::io::{Read, Write};
+use std::rc::Rc;
 use std::rt::Files;
 
 /// Runs the program on its arguments, without the program's name, and returns the exit status.
@@ -85,7 +89,10 @@ fn obey<H: Files, R: Read, W: Write, E: Write + Screen>(
 /// Reports how a run ended, and returns its exit status.
 fn conclude<E: Write>(end: Result<Outcome, RunFault>, evidence: &Evidence<'_>, err: &mut E) -> u8 {
     let is_quiet = matches!(end, Err(RunFault::Write)) && evidence.is_quiet();
+    // Lines that cannot be written are dropped.
+    let _ = err.write_all(evidence.rules.as_slice());
     let status = tell_end(end, is_quiet, err);
+    let _ = err.write_all(evidence.wrong.as_slice());
     if evidence.is_curious {
         let _ = evidence.explain(end, err);
     }
@@ -131,11 +138,35 @@ fn perform<H: Files, R: Read, W: Write, E: Write + Screen>(
         Request::Check { options } => check(sources, options, out, evidence),
         Request::Uses { at, .. } => list_uses(sources.rt, at, sources.input, out, evidence),
         Request::Join => join(sources, out, evidence),
-        _ => run_request(sources, out, err, evidence).map(Outcome::from),
+        Request::Trace { options, shown, .. } => {
+            let firings = Firings::new(evidence.alloc, options, shown);
+            trace(sources, firings, out, evidence)
+        }
+        _ => {
+            let ending = run_request(sources, out, err, evidence)?;
+            Ok(evidence.outcome_of(ending))
+        }
     }
 }
 
-/// Runs any command except `check`, `uses` and `join`.
+/// Traces an evaluation, and records the lines of `--rules` and a usage error.
+fn trace<H: Files, R: Read, W: Write>(
+    sources: &mut Sources<'_, H, R>,
+    mut firings: Firings<'_>,
+    out: &mut W,
+    evidence: &mut Evidence<'_>,
+) -> Result<Outcome, RunFault> {
+    let end = evaluate(sources, &mut firings, out, evidence);
+    let Firings { wrong, rules, .. } = firings;
+    if !wrong.is_empty() {
+        evidence.wrong = wrong;
+    }
+    evidence.rules = rules;
+    let ending = end?;
+    Ok(evidence.outcome_of(ending))
+}
+
+/// Runs any command except `check`, `uses`, `join` and `trace`.
 fn run_request<H: Files, R: Read, W: Write, E: Write + Screen>(
     sources: &mut Sources<'_, H, R>,
     out: &mut W,
@@ -144,9 +175,6 @@ fn run_request<H: Files, R: Read, W: Write, E: Write + Screen>(
 ) -> Result<Ending, RunFault> {
     match evidence.invocation.request {
         Request::Eval { options, .. } => evaluate_observed(sources, options, out, err, evidence),
-        Request::Trace { options, shown, .. } => {
-            evaluate(sources, &mut Firings { options, shown }, out, evidence)
-        }
         Request::Serve { options, .. } => serve(sources, options, out, err, evidence),
         Request::Make { pattern, args } => {
             make_term(evidence.alloc, pattern.as_bytes(), args.as_bytes(), out)
@@ -176,11 +204,11 @@ fn run_on_text<R: Read, W: Write>(
 ) -> Result<Ending, RunFault> {
     let alloc = evidence.alloc;
     match evidence.invocation.request {
-        Request::Share { nodes: None, .. } => share_term(alloc, text, out),
         Request::Share {
             nodes: Some(nodes),
+            run,
             ..
-        } => run_share_dot(alloc, text, nodes, out),
+        } => run_share_dot(alloc, run.form, text, nodes, out),
         Request::Match { pattern, .. } => {
             let report = match_term(alloc, pattern.as_bytes(), text, out)?;
             evidence.is_match = report.matched;
@@ -188,13 +216,11 @@ fn run_on_text<R: Read, W: Write>(
         }
         Request::Aterm {
             indent: Some(indent),
+            width,
             ..
-        } => {
-            let indentation = Indentation {
-                indent,
-                width: None,
-            };
-            run_aterm_indented(alloc, text, indentation, out)
+        } => run_aterm_indented(alloc, text, Indentation { indent, width }, out),
+        Request::Aterm { run, .. } | Request::Share { run, .. } => {
+            run_on_term(alloc, &mut Input::new(text), &mut Output::new(out), &run)
         }
         _ => print_term(alloc, text, out),
     }
@@ -210,28 +236,110 @@ fn evaluate_observed<H: Files, R: Read, W: Write, E: Write + Screen>(
     evidence: &mut Evidence<'_>,
 ) -> Result<Ending, RunFault> {
     let watch = err.progress(&evidence.invocation.request);
-    let profiler = Profile::new(evidence.alloc, options.profile, err);
-    if options.stuck {
-        let reporter = StuckReport::new(evidence.alloc);
-        let observer = Observer {
-            watch,
-            profiler,
-            reporter,
-        };
-        let mut calls = Calls { options, observer };
-        let end = evaluate(sources, &mut calls, out, evidence);
-        let Observer { reporter, .. } = calls.observer;
-        evidence.calls = reporter.lines;
-        end
-    } else {
-        let reporter = Unwatched;
-        let observer = Observer {
-            watch,
-            profiler,
-            reporter,
-        };
-        evaluate(sources, &mut Values { options, observer }, out, evidence)
+    let columns = err.columns();
+    let profiler = Profile::new(evidence.alloc, options.profile, columns, err);
+    let reporter = Unwatched;
+    let observer = Observer {
+        watch,
+        profiler,
+        reporter,
+    };
+    let values = Values { options, observer };
+    match options.graph {
+        Some(nodes) => evaluate_graph(sources, values, nodes, out, evidence),
+        None if options.stuck => evaluate_calls(sources, values, out, evidence),
+        None => evaluate_values(sources, values, out, evidence),
     }
+}
+
+/// Evaluates a specification and input terms, and records whether an evaluation could start.
+fn evaluate_values<H: Files, R: Read, W: Write, V: Watch + Drop, P: Starts + Drop>(
+    sources: &mut Sources<'_, H, R>,
+    mut values: Values<V, P>,
+    out: &mut W,
+    evidence: &mut Evidence<'_>,
+) -> Result<Ending, RunFault> {
+    let end = evaluate(sources, &mut values, out, evidence);
+    evidence.has_begun = values.observer.profiler.has_begun();
+    end
+}
+
+/// Evaluates one term, writes the graph of its result with at most `nodes` nodes, and records
+/// whether an evaluation could start.
+fn evaluate_graph<H: Files, R: Read, W: Write, V: Watch + Drop, P: Starts + Drop>(
+    sources: &mut Sources<'_, H, R>,
+    values: Values<V, P>,
+    nodes: u32,
+    out: &mut W,
+    evidence: &mut Evidence<'_>,
+) -> Result<Ending, RunFault> {
+    let Values { options, observer } = values;
+    let Observer {
+        watch,
+        profiler,
+        ..
+    } = observer;
+    let text = Vec::new(evidence.alloc);
+    let reporter = GraphReport { nodes, text };
+    let observer = Observer {
+        watch,
+        profiler,
+        reporter,
+    };
+    let mut graphs = Graphs { options, observer };
+    let end = evaluate(sources, &mut graphs, out, evidence);
+    evidence.has_begun = graphs.observer.profiler.has_begun();
+    end
+}
+
+/// Evaluates a specification and input terms, and records the stuck calls in the results, and
+/// whether an evaluation could start.
+fn evaluate_calls<H: Files, R: Read, W: Write, V: Watch + Drop, P: Starts + Drop>(
+    sources: &mut Sources<'_, H, R>,
+    values: Values<V, P>,
+    out: &mut W,
+    evidence: &mut Evidence<'_>,
+) -> Result<Ending, RunFault> {
+    let Values { options, observer } = values;
+    let Observer {
+        watch,
+        profiler,
+        ..
+    } = observer;
+    let reporter = parted_report(evidence.alloc)?;
+    let ended = reporter.ended.clone()?;
+    let observer = Observer {
+        watch: Counted { watch, ended },
+        profiler,
+        reporter,
+    };
+    let mut calls = Calls { options, observer };
+    let end = evaluate(sources, &mut calls, out, evidence);
+    let Calls { observer, .. } = calls;
+    let Observer {
+        profiler,
+        reporter,
+        ..
+    } = observer;
+    evidence.has_begun = profiler.has_begun();
+    let Parted {
+        reporter,
+        parts,
+        ..
+    } = reporter;
+    let ending = end?;
+    let lines = numbered_lines(evidence.alloc, &reporter.lines, &parts, options.terms);
+    evidence.calls = lines.map_err(|_| RunFault::Memory { lines: 0 })?;
+    Ok(ending)
+}
+
+/// Returns a report of stuck calls to which nothing was reported.
+fn parted_report(alloc: Global) -> Result<Parted<StuckReport>, AllocError> {
+    Ok(Parted {
+        reporter: StuckReport::new(alloc),
+        ended: Rc::new(alloc, Cell::new(0))?,
+        parts: Vec::new(alloc),
+    })
 }
 
 /// Evaluates a specification and its input terms, and records the number of limit lines.
@@ -250,9 +358,13 @@ fn evaluate<H: Files, R: Read, W: Write, K: Work>(
     };
     let RunReport {
         ending,
+        lines,
         limit_lines,
     } = end?;
     evidence.limit_lines = limit_lines;
+    if lines == 0 && matches!(ending, Ending::Done) {
+        evidence.note_missing()?;
+    }
     Ok(ending)
 }
 

@@ -1,5 +1,6 @@
 //! The progress line of long evaluations.
 
+use crate::numbered::TermNumber;
 use std::alloc::Global;
 use std::io::Write;
 use std::time::{Clock, Duration};
@@ -17,6 +18,19 @@ const CLEAR: &[u8] = b"\x1b[K";
 /// Returns to the start of the line and clears it.
 const WIPE: &[u8] = b"\r\x1b[K";
 
+/// What is shown of a run.
+#[derive(Clone, Copy)]
+pub struct Display {
+    /// Whether progress is shown.
+    pub is_asked: bool,
+    /// The step limit of each term.
+    pub steps: u64,
+    /// The number of columns of the terminal. Lines are shorter.
+    pub width: usize,
+    /// The number of the first term.
+    pub first: TermNumber,
+}
+
 /// The progress of a run, and the time of the next line.
 #[derive(Drop)]
 pub struct Progress<'a, C> {
@@ -24,14 +38,10 @@ pub struct Progress<'a, C> {
     alloc: Global,
     /// The clock.
     clock: &'a C,
-    /// Whether progress is shown.
-    is_asked: bool,
-    /// The step limit of each term.
-    steps: u64,
-    /// The number of columns of the terminal.
-    width: usize,
-    /// The number of the term that is being evaluated, from 1.
-    term: u64,
+    /// What is shown.
+    display: Display,
+    /// The number of the term that is being evaluated.
+    term: TermNumber,
     /// The time of the next line. `None` before the first report about a term.
     due: Option<Duration>,
     /// Whether a line is visible.
@@ -39,22 +49,13 @@ pub struct Progress<'a, C> {
 }
 
 impl<'a, C: Clock> Progress<'a, C> {
-    /// Returns the state before the first term. `steps` is the step limit of each term, and lines
-    /// are shorter than `width` columns.
-    pub fn new(
-        alloc: Global,
-        clock: &'a C,
-        is_asked: bool,
-        steps: u64,
-        width: usize,
-    ) -> Progress<'a, C> {
+    /// Returns the state before the first term.
+    pub fn new(alloc: Global, clock: &'a C, display: Display) -> Progress<'a, C> {
         Progress {
             alloc,
             clock,
-            is_asked,
-            steps,
-            width,
-            term: 1,
+            display,
+            term: display.first,
             due: None,
             is_shown: false,
         }
@@ -62,7 +63,7 @@ impl<'a, C: Clock> Progress<'a, C> {
 
     /// Shows the progress of the term, if it is time. A line that cannot be shown is dropped.
     pub fn show<E: Write>(&mut self, left: u64, cells: u32, err: &mut E) {
-        if self.is_asked && self.is_due() {
+        if self.display.is_asked && self.is_due() {
             self.is_shown = true;
             let _ = self.write_line(left, cells, err);
         }
@@ -92,22 +93,23 @@ impl<'a, C: Clock> Progress<'a, C> {
     /// free: a terminal that clears after it would clear the last character.
     fn write_line<E: Write>(&self, left: u64, cells: u32, err: &mut E) -> io::Result<()> {
         let term = self.term;
-        let spent = Grouped(self.steps.saturating_sub(left));
-        let steps = Grouped(self.steps);
+        let steps = self.display.steps;
+        let spent = Grouped(steps.saturating_sub(left));
+        let steps = Grouped(steps);
         let cells = Grouped(u64::from(cells));
         let mut line = Vec::new(self.alloc);
         write!(
             line,
-            "\rrecw: term {term}: {spent} of {steps} steps, {cells} cells"
+            "\rrecw: {term}: {spent} of {steps} steps, {cells} cells"
         )?;
-        line.truncate(self.width);
+        line.truncate(self.display.width);
         line.extend_from_slice(CLEAR)?;
         err.write_all(line.as_slice())
     }
 
     /// Ends a term: clears its line. The next term follows.
     pub fn end_term<E: Write>(&mut self, err: &mut E) {
-        self.term = self.term.saturating_add(1);
+        self.term = self.term.after(1);
         if self.is_shown {
             self.is_shown = false;
             let _ = err.write_all(WIPE);

@@ -1,7 +1,7 @@
 //! The line on standard error that reports how a run ended, and the exit statuses.
 ghost use Rattle.std.specs.Prelude.{◌≡◌, ◌≢◌, ◌↔◌, ◌⊎◌, IsErr, IsOk, Ok, Err};
 
-use recw_cli::status::{DONE, OUT_OF_ROOM, REFUSED, STREAMS};
+use recw_cli::status::{COMMAND_LINE, DONE, OUT_OF_ROOM, REFUSED, STREAMS};
 use rx_run::{Ending, Refusal, RunFault};
 use std::io::Write;
 
@@ -14,6 +14,8 @@ pub enum Outcome {
     Refused(Refusal),
     /// `check` found an error, or a warning with `--strict`.
     Faulty,
+    /// An option names a rule, symbol or term that does not exist. This is a usage error.
+    Unnamed,
 }
 
 impl From<Ending> for Outcome {
@@ -29,7 +31,9 @@ impl From<Ending> for Outcome {
 /// cannot be written is dropped.
 pub fn tell_end<E: Write>(end: Result<Outcome, RunFault>, is_quiet: bool, err: &mut E) -> u8
     ensures done { (result ≡ 0) ↔ (end ≡ Ok Outcome.Done) }
-    ensures refused { (result ≡ 1) ↔ (IsOk end × (end ≢ Ok Outcome.Done)) }
+    ensures refused { (result ≡ 1) ↔ (IsOk end × ((end ≢ Ok Outcome.Done)
+        × (end ≢ Ok Outcome.Unnamed))) }
+    ensures wrong { (result ≡ 2) ↔ (end ≡ Ok Outcome.Unnamed) }
     ensures room { (result ≡ 3) ↔ (IsErr end × ((end ≢ Err RunFault.Read)
         × (end ≢ Err RunFault.Write))) }
     ensures streams { (result ≡ 4) ↔ ((end ≡ Err RunFault.Read)
@@ -38,6 +42,7 @@ pub fn tell_end<E: Write>(end: Result<Outcome, RunFault>, is_quiet: bool, err: &
     match end {
         Ok(Outcome::Done) => DONE,
         Ok(Outcome::Faulty) => REFUSED,
+        Ok(Outcome::Unnamed) => COMMAND_LINE,
         Ok(Outcome::Refused(refusal)) => {
             if let Some(place) = refusal.place() {
                 let _ = writeln!(err, "recw: {place}");

@@ -1,8 +1,9 @@
 //! Standard error: messages, and the progress of long evaluations.
 
-use crate::progress::Progress;
+use crate::numbered::TermNumber;
+use crate::progress::{Display, Progress};
 use rec_run::Watch;
-use recw_cli::{Audience, Console, Request};
+use recw_cli::{Audience, Console, Request, TermChoice};
 use std::alloc::Global;
 use std::env::{Env, FillError};
 use std::io::{self, IsTerminal, Stderr, Write};
@@ -31,6 +32,9 @@ pub trait Screen: Audience {
 
     /// Returns what standard output is.
     fn look(&self) -> Look;
+
+    /// Returns the number of columns of standard error, if it is a terminal.
+    fn columns(&self) -> Option<usize>;
 
     /// Returns the progress display for this request. It shows nothing if none is requested.
     fn progress(&self, request: &Request<'_>) -> Self::Progress;
@@ -93,7 +97,7 @@ fn is_dumb(env: &impl Env) -> bool {
 
 /// Returns the number of columns of the terminal: the variable COLUMNS if it is a positive number,
 /// and otherwise 80.
-fn columns(env: &impl Env) -> usize {
+fn columns_of(env: &impl Env) -> usize {
     let mut buf = [0u8; 20];
     let Ok(len) = env.var("COLUMNS", &mut buf) else {
         return 80;
@@ -134,21 +138,31 @@ impl<'a> Screen for Terminal<'a> {
         }
     }
 
+    fn columns(&self) -> Option<usize> {
+        if self.rt.stderr().is_terminal() {
+            Some(columns_of(self.rt))
+        } else {
+            None
+        }
+    }
+
     /// A progress line is shown for `eval` if it is requested or standard error is a terminal.
     fn progress(&self, request: &Request<'_>) -> ProgressLine<'a> {
         let err = self.rt.stderr();
-        let (is_asked, steps) = match *request {
+        let (is_asked, steps, terms) = match *request {
             Request::Eval { options, .. } => {
-                (options.progress || err.is_terminal(), options.steps)
+                let is_asked = options.progress || err.is_terminal();
+                (is_asked, options.steps, options.terms)
             }
-            _ => (false, 0),
+            _ => (false, 0, TermChoice::All),
         };
-        let width = if err.is_terminal() {
-            columns(self.rt)
-        } else {
-            usize::MAX
+        let display = Display {
+            is_asked,
+            steps,
+            width: self.columns().unwrap_or(usize::MAX),
+            first: TermNumber::first(terms),
         };
-        let progress = Progress::new(self.alloc, self.rt, is_asked, steps, width);
+        let progress = Progress::new(self.alloc, self.rt, display);
         ProgressLine { progress, err }
     }
 

@@ -5,7 +5,7 @@ use crate::expected::expected_words;
 use crate::input::{Sources, open_file};
 use crate::options::serve_settings;
 use crate::recorded::Recorded;
-use rec_serve::{Listener, Refusal, ServeFault, run_serve};
+use rec_serve::{Listener, Refusal, ServeFault, Session, run_serve};
 use rec_sorts::Checked;
 use recw_cli::{EvalOptions, NamedRefusal, TextName, Texts, Which, explain_given, explain_place};
 use rx_run::{Ending, Reason, RunFault, Source};
@@ -180,7 +180,8 @@ fn answer_all<S: Read, R: Read, W: Write, E: Write>(
         err,
     };
     let settings = serve_settings(options);
-    let end = run_serve(alloc, spec, &mut requests, out, settings, &mut explainer);
+    let session = Session { alloc, settings };
+    let end = run_serve(session, spec, &mut requests, out, &mut explainer);
     let name = evidence.name_of(Source::Term);
     evidence.note_read(requests.finish(), name);
     end_of(end)

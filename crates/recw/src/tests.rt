@@ -76,6 +76,10 @@ impl<W: Write> Screen for Console<W> {
         }
     }
 
+    fn columns(&self) -> Option<usize> {
+        if self.is_curious() { Some(80) } else { None }
+    }
+
     fn progress(&self, _request: &Request<'_>) -> Unwatched {
         Unwatched
     }
@@ -140,13 +144,24 @@ fn all_leave<H: Abort + Files>(rt: &H, alloc: Global, rows: &[Row]) {
     }
 }
 
-/// The test cases with texts on standard input.
-const TABLES: [&[Row]; 9] = [
+/// The test cases with texts on standard input: help, and the output of each command.
+const TABLES: [&[Row]; 5] = [
     help::HELPS,
     words::STATUSES,
     words::TRACES,
     words::TERMS,
     words::PATTERNS,
+];
+
+#[test]
+fn answers_and_writes(rt: HostRuntime) {
+    for rows in &TABLES {
+        all_leave(&rt, rt.alloc(), rows);
+    }
+}
+
+/// The test cases with texts on standard input: explanations, input terms and exit statuses.
+const REPORTS: [&[Row]; 4] = [
     explained::INPUTS,
     checked::FORMS,
     given::WORDS,
@@ -154,8 +169,8 @@ const TABLES: [&[Row]; 9] = [
 ];
 
 #[test]
-fn answers_and_writes(rt: HostRuntime) {
-    for rows in &TABLES {
+fn explains_and_reports(rt: HostRuntime) {
+    for rows in &REPORTS {
         all_leave(&rt, rt.alloc(), rows);
     }
 }
@@ -168,10 +183,11 @@ fn all_leave_on(rt: &impl Abort, alloc: Global, files: &Shelf, rows: &[Row]) {
 }
 
 /// The test cases with texts in files.
-const SHELVES: [(Shelf, &[Row]); 3] = [
+const SHELVES: [(Shelf, &[Row]); 4] = [
     (streams::FILES, streams::NAMED),
     (explained::REFUSED, explained::EXPLAINED),
     (given::FILES, given::NAMED),
+    (checked::PARTS, checked::JOINED),
 ];
 
 #[test]

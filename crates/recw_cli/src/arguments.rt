@@ -22,6 +22,12 @@ pub const MOST_INDENT: u32 = 64;
 /// The smallest `--width`: the three dots at which a term is cut.
 pub const LEAST_WIDTH: u32 = 3;
 
+/// The options that `--bytes` of `aterm` and `--nodes` exclude.
+const TABLE_OUTPUT: &[&str] = &["to-table"];
+
+/// The options that `--indent` and `--width` of `aterm` exclude.
+const TABLES: &[&str] = &["from-table", "to-table"];
+
 /// An argument of a command.
 #[derive(Clone, Copy)]
 pub struct Argument {
@@ -47,19 +53,23 @@ pub enum Kind {
     Flag,
     /// An option with a number.
     Number(Number),
-    /// An option with a number, which requires the other option.
-    NumberBeside(Number, &'static str),
+    /// An option with a number, which requires the other option and excludes all that it excludes:
+    /// the parser does not require an option that is excluded.
+    NumberBeside(Number, &'static str, &'static [&'static str]),
+    /// An option with a number, which excludes the other options.
+    NumberWithout(Number, &'static [&'static str]),
     /// An option with two numbers and a `:` between them, which are read as two values.
     Place(Number),
     /// An option with a name; the string is its placeholder in the help.
     Name(&'static str),
     /// An option with one of several names.
     Choice(Choice),
-    /// The option `--term`, which may be repeated, and excludes the argument with this name.
-    Term(&'static str),
-    /// An option with a file, which may be repeated; the string is its placeholder in the help. It
-    /// excludes the options with these names.
-    Files(&'static str, &'static [&'static str]),
+    /// An option without a value, which excludes the other option.
+    FlagWithout(&'static str),
+    /// The option `-e`, which may be repeated, and excludes the argument with this name.
+    Input(&'static str),
+    /// An option with a file, which may be repeated; the string is its placeholder in the help.
+    Files(&'static str),
 }
 
 /// The number of an option.
@@ -105,25 +115,36 @@ pub const FILE: Argument = Argument {
     kind: Kind::Word,
 };
 
-/// The option `--term`, an alternative to a file of input terms.
+/// The option `-e`, an alternative to a file of input terms.
+pub const INPUT: Argument = Argument {
+    name: "input",
+    help: "Input term instead of TERMS; may be repeated",
+    kind: Kind::Input("TERMS"),
+};
+
+/// The option `--only-terms`.
+pub const ONLY_TERMS: Argument = Argument {
+    name: "only-terms",
+    help: "Evaluate input terms only, not the EVAL terms",
+    kind: Kind::FlagWithout("term"),
+};
+
+/// The option `--term`.
 pub const TERM: Argument = Argument {
     name: "term",
-    help: "Input term instead of TERMS; may be repeated",
-    kind: Kind::Term("TERMS"),
+    help: "Evaluate only the N-th term, 1 to 10^18",
+    kind: Kind::Number(Number {
+        called: "N",
+        default: None,
+        range: ValueParser::Unsigned(1, MOST_STEPS),
+    }),
 };
 
 /// The option `--join`.
 pub const JOIN: Argument = Argument {
     name: "join",
     help: "Specification to join before SPEC; may be repeated",
-    kind: Kind::Files("FILE", &[]),
-};
-
-/// The option `--join` of `check`, which writes lines only.
-pub const JOIN_CHECKED: Argument = Argument {
-    name: "join",
-    help: "Specification to join before SPEC; may be repeated",
-    kind: Kind::Files("FILE", &["format", "explain"]),
+    kind: Kind::Files("FILE"),
 };
 
 /// The option `--steps`.
@@ -214,18 +235,71 @@ pub const SERVED_BYTES: Argument = Argument {
     }),
 };
 
+/// The option `--to-table` of commands that print results.
+pub const RESULT_TABLES: Argument = Argument {
+    name: "to-table",
+    help: "Print tables, with each shared part once",
+    kind: Kind::FlagWithout("bytes"),
+};
+
+/// The option `--bytes` of `aterm`, whose default depends on `--from-table`.
+pub const TERM_BYTES: Argument = Argument {
+    name: "bytes",
+    help: "Bytes of the term, up to 10^18; 16777216 with --from-table",
+    kind: Kind::NumberWithout(
+        Number {
+            called: "B",
+            default: None,
+            range: ValueParser::Unsigned(0, MOST_BYTES),
+        },
+        TABLE_OUTPUT,
+    ),
+};
+
+/// The option `--to-table` of commands on one term.
+pub const TO_TABLE: Argument = Argument {
+    name: "to-table",
+    help: "Print the table of each term",
+    kind: Kind::Flag,
+};
+
+/// The option `--from-table`.
+pub const FROM_TABLE: Argument = Argument {
+    name: "from-table",
+    help: "Read a table, and use its term",
+    kind: Kind::Flag,
+};
+
 /// The option `--indent`.
 pub const INDENT: Argument = Argument {
     name: "indent",
     help: "Print over several lines, N spaces per level, 0 to 64",
-    kind: Kind::Number(Number {
-        called: "N",
-        default: None,
-        range: ValueParser::Signed(0, MOST_INDENT as i64),
-    }),
+    kind: Kind::NumberWithout(
+        Number {
+            called: "N",
+            default: None,
+            range: ValueParser::Signed(0, MOST_INDENT as i64),
+        },
+        TABLES,
+    ),
 };
 
-/// The option `--width`.
+/// The option `--width` of `aterm`, which requires `--indent`.
+pub const LINE_WIDTH: Argument = Argument {
+    name: "width",
+    help: "Break only terms that do not fit on a line of W bytes",
+    kind: Kind::NumberBeside(
+        Number {
+            called: "W",
+            default: None,
+            range: ValueParser::Signed(1, MOST_CELLS as i64),
+        },
+        "indent",
+        TABLES,
+    ),
+};
+
+/// The option `--width` of `trace`.
 pub const WIDTH: Argument = Argument {
     name: "width",
     help: "Cut each term to W bytes, 3 to 2^30",
@@ -287,7 +361,14 @@ pub const SYMBOL: Argument = Argument {
     kind: Kind::Name("NAME"),
 };
 
-/// The option `--nodes`, which requires `--dot`.
+/// The option `--rules`.
+pub const RULES: Argument = Argument {
+    name: "rules",
+    help: "Print the text of each rule in these lines",
+    kind: Kind::Flag,
+};
+
+/// The option `--nodes` of `share`, which requires `--dot`.
 pub const NODES: Argument = Argument {
     name: "nodes",
     help: "Most nodes in the graph, 1 to 2^30",
@@ -298,6 +379,22 @@ pub const NODES: Argument = Argument {
             range: ValueParser::Signed(1, MOST_CELLS as i64),
         },
         "dot",
+        TABLE_OUTPUT,
+    ),
+};
+
+/// The option `--nodes` of `eval`, which requires `--dot`.
+pub const RESULT_NODES: Argument = Argument {
+    name: "nodes",
+    help: "Most nodes in the graph, 1 to 2^30",
+    kind: Kind::NumberBeside(
+        Number {
+            called: "N",
+            default: Some("1000"),
+            range: ValueParser::Signed(1, MOST_CELLS as i64),
+        },
+        "dot",
+        TABLE_OUTPUT,
     ),
 };
 
@@ -306,6 +403,36 @@ pub const COUNT: Argument = Argument {
     name: "count",
     help: "Print the step count after each result",
     kind: Kind::Flag,
+};
+
+/// The option `--sizes`.
+pub const SIZES: Argument = Argument {
+    name: "sizes",
+    help: "Print the number of cells after each result",
+    kind: Kind::Flag,
+};
+
+/// The option `--dot` of `eval`.
+pub const DOT: Argument = Argument {
+    name: "dot",
+    help: "Print a graph of the N-th result for Graphviz instead",
+    kind: Kind::NumberWithout(
+        Number {
+            called: "N",
+            default: None,
+            range: ValueParser::Unsigned(1, MOST_STEPS),
+        },
+        &[
+            "only-terms",
+            "term",
+            "bytes",
+            "to-table",
+            "count",
+            "sizes",
+            "stuck",
+            "profile",
+        ],
+    ),
 };
 
 /// The option `--count` of `trace`.
@@ -358,17 +485,19 @@ fn argument_of<'a>(alloc: Global, argument: &Argument) -> Result<Arg<'a>, AllocE
         Kind::Several => Ok(several(bare)),
         Kind::Flag => Ok(flag(bare, argument.name)),
         Kind::Number(number) => Ok(option(bare, argument.name, &number)),
-        Kind::NumberBeside(number, other) => {
-            option(bare, argument.name, &number).requires_arg(other)
+        Kind::NumberBeside(number, other, excluded) => {
+            let option = option(bare, argument.name, &number).requires_arg(other)?;
+            option.conflicts_with_all(excluded)
+        }
+        Kind::NumberWithout(number, others) => {
+            option(bare, argument.name, &number).conflicts_with_all(others)
         }
         Kind::Place(number) => Ok(option(bare, argument.name, &number).value_delimiter(':')),
         Kind::Name(called) => Ok(bare.long(argument.name).value_name(called)),
         Kind::Choice(choice) => Ok(one_of(bare, argument.name, &choice)),
-        Kind::Term(other) => term(bare, argument.name).conflicts_with(other),
-        Kind::Files(called, others) => {
-            let option = files(bare, argument.name, called);
-            option.conflicts_with_all(others)
-        }
+        Kind::FlagWithout(other) => flag(bare, argument.name).conflicts_with(other),
+        Kind::Input(other) => input(bare, argument.name).conflicts_with(other),
+        Kind::Files(called) => Ok(files(bare, argument.name, called)),
     }
 }
 
@@ -413,8 +542,8 @@ fn one_of<'a>(bare: Arg<'a>, name: &'a str, choice: &Choice) -> Arg<'a> {
     }
 }
 
-/// Makes it the option `--term`.
-fn term<'a>(bare: Arg<'a>, name: &'a str) -> Arg<'a> {
+/// Makes it the option `-e`.
+fn input<'a>(bare: Arg<'a>, name: &'a str) -> Arg<'a> {
     bare.short('e')
         .long(name)
         .value_name("TERM")

@@ -1,9 +1,10 @@
 //! The commands, their arguments and the texts of their help.
 
 use crate::arguments::{
-    AT, Argument, BYTES, CELLS, COUNT, DEPTH, EXPLAIN, EXPLAIN_FINDINGS, FILE, FIRST, FORMAT,
-    INDENT, JOIN, JOIN_CHECKED, Kind, LAST, MEMO, NODES, PATTERN, RECLAIM, RULE, SERVED_BYTES,
-    SERVED_DEPTH, SPENT, STEPS, SYMBOL, TERM, TERMS, WIDTH, arguments_of,
+    AT, Argument, BYTES, CELLS, COUNT, DEPTH, DOT, EXPLAIN, EXPLAIN_FINDINGS, FILE, FIRST, FORMAT,
+    FROM_TABLE, INDENT, INPUT, JOIN, Kind, LAST, LINE_WIDTH, MEMO, NODES, ONLY_TERMS, PATTERN,
+    RECLAIM, RESULT_NODES, RESULT_TABLES, RULE, RULES, SERVED_BYTES, SERVED_DEPTH, SIZES, SPENT,
+    STEPS, SYMBOL, TERM, TERM_BYTES, TERMS, TO_TABLE, WIDTH, arguments_of,
 };
 use clap::Command;
 use std::alloc::{AllocError, Global};
@@ -25,10 +26,14 @@ struct Subcommand {
     arguments: &'static [Argument],
 }
 
-/// The commands on terms, in the order of the help.
-static ON_TERMS: [Subcommand; 7] = [EVAL, SERVE, TRACE, ATERM, SHARE, MATCH, MAKE];
+/// The commands that evaluate, in the order of the help. The commands are in three tables, since a
+/// table of all is too large to be checked at once.
+static EVALUATING: [Subcommand; 3] = [EVAL, SERVE, TRACE];
 
-/// The commands on specifications, which the help has after those on terms.
+/// The commands on terms, which the help has after those that evaluate.
+static ON_TERMS: [Subcommand; 4] = [ATERM, SHARE, MATCH, MAKE];
+
+/// The commands on specifications, which the help has last.
 static ON_SPECIFICATIONS: [Subcommand; 3] = [CHECK, USES, JOINED];
 
 /// The command `eval`.
@@ -48,6 +53,8 @@ const EVAL: Subcommand = Subcommand {
             kind: Kind::Word,
         },
         TERMS,
+        INPUT,
+        ONLY_TERMS,
         TERM,
         JOIN,
         STEPS,
@@ -56,7 +63,11 @@ const EVAL: Subcommand = Subcommand {
         RECLAIM,
         DEPTH,
         BYTES,
+        RESULT_TABLES,
         COUNT,
+        SIZES,
+        DOT,
+        RESULT_NODES,
         Argument {
             name: "limit-annotations",
             help: "Print an input term's annotations after its limit",
@@ -110,6 +121,7 @@ const SERVE: Subcommand = Subcommand {
         RECLAIM,
         SERVED_DEPTH,
         SERVED_BYTES,
+        RESULT_TABLES,
         COUNT,
         EXPLAIN,
     ],
@@ -128,6 +140,8 @@ const TRACE: Subcommand = Subcommand {
             kind: Kind::Needed,
         },
         TERMS,
+        INPUT,
+        TERM,
         STEPS,
         CELLS,
         SPENT,
@@ -141,6 +155,7 @@ const TRACE: Subcommand = Subcommand {
         LAST,
         RULE,
         SYMBOL,
+        RULES,
         EXPLAIN,
     ],
 };
@@ -149,8 +164,11 @@ const TRACE: Subcommand = Subcommand {
 const ATERM: Subcommand = Subcommand {
     name: "aterm",
     about: "Print an ATerm in its shortest form",
-    after_help: "Example: echo 'f ( a , [ 1 , -007 ] )' | recw aterm",
-    arguments: &[FILE, EXPLAIN, INDENT],
+    after_help: "A term of more than B bytes prints '!bytes B'.\n\n\
+         Example: echo 'f ( a , [ 1 , -007 ] )' | recw aterm",
+    arguments: &[
+        FILE, EXPLAIN, INDENT, LINE_WIDTH, FROM_TABLE, TO_TABLE, TERM_BYTES,
+    ],
 };
 
 /// The command `share`.
@@ -164,9 +182,11 @@ const SHARE: Subcommand = Subcommand {
         Argument {
             name: "dot",
             help: "Print a graph of its cells for Graphviz instead",
-            kind: Kind::Flag,
+            kind: Kind::FlagWithout("to-table"),
         },
         NODES,
+        FROM_TABLE,
+        TO_TABLE,
     ],
 };
 
@@ -224,7 +244,7 @@ const CHECK: Subcommand = Subcommand {
             help: "Exit with status 1 if there is a warning",
             kind: Kind::Flag,
         },
-        JOIN_CHECKED,
+        JOIN,
         FORMAT,
         EXPLAIN_FINDINGS,
     ],
@@ -264,6 +284,7 @@ const JOINED: Subcommand = Subcommand {
 /// Makes the parser of the command line. Its input does not include the program's name.
 pub fn command<'a>(alloc: Global) -> Result<Command<'a>, AllocError> {
     let mut subcommands = Vec::new(alloc);
+    push_subcommands(alloc, evaluating(), &mut subcommands)?;
     push_subcommands(alloc, on_terms(), &mut subcommands)?;
     push_subcommands(alloc, on_specifications(), &mut subcommands)?;
     name_command(bare_command(alloc).subcommands(subcommands))
@@ -272,6 +293,11 @@ pub fn command<'a>(alloc: Global) -> Result<Command<'a>, AllocError> {
 /// Sets the program's name in usage lines.
 fn name_command(command: Result<Command<'_>, AllocError>) -> Result<Command<'_>, AllocError> {
     command?.bin_name("recw")
+}
+
+/// Returns the table of the commands that evaluate.
+fn evaluating() -> &'static [Subcommand] {
+    &EVALUATING
 }
 
 /// Returns the table of the commands on terms.

@@ -106,7 +106,18 @@ fn hint_of(alloc: Global, reason: Reason, at: usize, subject: &Subject<'_, '_>) 
     }
 }
 
-impl Diagnosis<'_, '_> {
+impl<'t, 's> Diagnosis<'t, 's> {
+    /// Leaves out the line of an earlier declaration.
+    pub fn without_declaration(self) -> Diagnosis<'t, 's> {
+        match self.detail {
+            Some(Detail::Declared { .. }) => Diagnosis {
+                detail: None,
+                ..self
+            },
+            _ => self,
+        }
+    }
+
     /// Returns whether something is known besides a hint.
     pub fn is_said(&self) -> bool {
         self.detail.is_some() || !self.expected.is_empty() || self.suggestion.is_some()

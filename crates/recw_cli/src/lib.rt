@@ -6,6 +6,8 @@
 //! location of an error, its description, the expected tokens, and the source line with a caret.
 //! [`list_findings`] does this for the findings of a check, or writes them as JSON. All of them take
 //! what they say from one diagnosis.
+//! [`find_unnamed`] finds a rule or a symbol that an option names and the specification does not
+//! have; [`text_of_rule`] makes the text of a rule on one line.
 //! [`Console`], [`Guarded`] and [`Prompt`] are wrappers of a writer.
 //!
 //! ```text
@@ -51,6 +53,8 @@ mod prompt;
 mod refusals;
 mod report;
 mod request;
+mod rule_text;
+mod selection;
 pub mod status;
 mod text_name;
 mod unplaced;
@@ -67,9 +71,11 @@ pub use given::Given;
 pub use guarded::Guarded;
 pub use hint::{Change, Hint, find_hint, find_term_hint};
 pub use item::Item;
-pub use listing::{Finding, Form, Listed, list_findings};
-pub use options::{CheckOptions, EvalOptions, RulePlace, Shown};
+pub use listing::{Finding, Form, Listed, PartPlace, list_findings};
+pub use options::{CheckOptions, EvalOptions, RulePlace, Shown, TermChoice};
 pub use prompt::Prompt;
 pub use report::failed_start;
 pub use request::{Invocation, Request, STANDARD_INPUT};
+pub use rule_text::text_of_rule;
+pub use selection::{Location, Unnamed, count_terms, find_unnamed};
 pub use text_name::TextName;

@@ -30,6 +30,21 @@ pub enum Form {
     Json,
 }
 
+/// The location of a finding in a part of a joined text.
+#[derive(Clone, Copy)]
+pub struct PartPlace<'a> {
+    /// The name of the part.
+    pub name: TextName<'a>,
+    /// The text of the part.
+    pub text: &'a [u8],
+    /// The line, from 1.
+    pub line: usize,
+    /// The offset of the line in the part.
+    pub begin: usize,
+    /// The offset in the part.
+    pub at: usize,
+}
+
 /// A finding of a check.
 #[derive(Clone, Copy)]
 pub struct Finding<'a> {
@@ -37,6 +52,9 @@ pub struct Finding<'a> {
     pub at: usize,
     /// The end of that word; not used for a syntax error.
     pub end: usize,
+    /// The location in a part, if the text was joined of several. `shown` includes the location of
+    /// an earlier declaration then.
+    pub place: Option<PartPlace<'a>>,
     /// The error; `None` for a warning.
     pub reason: Option<Reason>,
     /// The code.
@@ -75,6 +93,38 @@ pub fn list_findings<W: Write>(
 /// Returns the syntax of a text whose findings are errors `S1` to `S11`.
 fn syntax_of(alloc: Global, text: &[u8], findings: &[Finding<'_>]) -> Option<Syntax> {
     syntax_at(alloc, findings.first()?.reason?, text)
+}
+
+/// Where a finding is: in the text, or in a part of it.
+#[derive(Clone, Copy)]
+struct Site<'n, 't> {
+    /// The name of the text or of the part.
+    name: TextName<'n>,
+    /// The offset in it.
+    at: usize,
+    /// The location.
+    spot: Spot<'t>,
+    /// A cursor at the location.
+    places: Places<'t>,
+}
+
+/// Returns where a finding is in a part.
+fn site_in<'a>(place: PartPlace<'a>) -> Site<'a, 'a> {
+    let PartPlace {
+        name,
+        text,
+        line,
+        begin,
+        at,
+    } = place;
+    let mut places = Places::at_line(text, line, begin);
+    let spot = places.place(at);
+    Site {
+        name,
+        at,
+        spot,
+        places,
+    }
 }
 
 /// The state of a listing.
@@ -137,13 +187,40 @@ impl<'n, 't, 's> Listing<'n, 't, 's> {
         form: Form,
         out: &mut W,
     ) -> io::Result<()> {
-        let spot = self.places.place(finding.at);
+        match finding.place {
+            Some(place) => self.write_at(finding, &site_in(place), form, out),
+            None => {
+                let site = self.next_site(finding.at);
+                self.write_at(finding, &site, form, out)
+            }
+        }
+    }
+
+    /// Moves to an offset of the text, and returns where that is.
+    fn next_site(&mut self, at: usize) -> Site<'n, 't> {
+        let spot = self.places.place(at);
+        Site {
+            name: self.name,
+            at,
+            spot,
+            places: self.places,
+        }
+    }
+
+    /// Writes a finding that is at `site`.
+    fn write_at<W: Write>(
+        &self,
+        finding: &Finding<'_>,
+        site: &Site<'_, '_>,
+        form: Form,
+        out: &mut W,
+    ) -> io::Result<()> {
         match form {
-            Form::Json => self.write_object(finding, &spot, out),
-            Form::Lines => self.write_line(finding, &spot, false, out),
+            Form::Json => self.write_object(finding, site, out),
+            Form::Lines => write_line(finding, site, false, out),
             Form::Explained { has_colours } => {
-                self.write_line(finding, &spot, has_colours, out)?;
-                self.write_explanation(finding, &spot, out)
+                write_line(finding, site, has_colours, out)?;
+                self.write_explanation(finding, &site.spot, out)
             }
         }
     }
@@ -151,23 +228,11 @@ impl<'n, 't, 's> Listing<'n, 't, 's> {
     /// Returns what is known about the error of a finding. `None` for a warning.
     fn diagnosis(&self, finding: &Finding<'_>) -> Option<Diagnosis<'t, 's>> {
         let reason = finding.reason?;
-        Some(diagnose(self.alloc, reason, finding.at, &self.subject))
-    }
-
-    /// Writes the line of a finding.
-    fn write_line<W: Write>(
-        &self,
-        finding: &Finding<'_>,
-        spot: &Spot<'_>,
-        has_colours: bool,
-        out: &mut W,
-    ) -> io::Result<()> {
-        write_spot(self.name, spot, out)?;
-        out.write_all(finding.mark(has_colours))?;
-        finding.write_message(out)?;
-        out.write_all(b" [")?;
-        out.write_all(finding.code)?;
-        out.write_all(b"]\n")
+        let diagnosis = diagnose(self.alloc, reason, finding.at, &self.subject);
+        match finding.place {
+            Some(_) => Some(diagnosis.without_declaration()),
+            None => Some(diagnosis),
+        }
     }
 
     /// Writes what follows the line of a finding.
@@ -204,7 +269,7 @@ impl<'n, 't, 's> Listing<'n, 't, 's> {
     fn write_object<W: Write>(
         &self,
         finding: &Finding<'_>,
-        spot: &Spot<'_>,
+        site: &Site<'_, '_>,
         out: &mut W,
     ) -> io::Result<()> {
         let diagnosis = self.diagnosis(finding);
@@ -212,9 +277,10 @@ impl<'n, 't, 's> Listing<'n, 't, 's> {
             Some(diagnosis) => replacement(diagnosis, finding.at),
             None => None,
         };
+        let length = self.end_of(finding, change).saturating_sub(finding.at);
         out.write_all(b"{\"file\":")?;
-        self.write_name(out)?;
-        self.write_range(spot, self.end_of(finding, change), out)?;
+        write_name(site.name, out)?;
+        write_range(site, site.at.saturating_add(length), out)?;
         out.write_all(b",\"severity\":\"")?;
         out.write_all(finding.severity())?;
         out.write_all(b"\",\"code\":\"")?;
@@ -225,27 +291,6 @@ impl<'n, 't, 's> Listing<'n, 't, 's> {
             Some(diagnosis) => self.write_members(diagnosis, change, out),
             None => out.write_all(b"\",\"expected\":[],\"suggestion\":null}\n"),
         }
-    }
-
-    /// Writes the name of the text.
-    fn write_name<W: Write>(&self, out: &mut W) -> io::Result<()> {
-        match self.name {
-            TextName::Path(path) => write_string(path, out),
-            name => {
-                out.write_all(b"\"")?;
-                name.write(&mut Escaped::new(out))?;
-                out.write_all(b"\"")
-            }
-        }
-    }
-
-    /// Writes a location and that of an offset after it.
-    fn write_range<W: Write>(&self, spot: &Spot<'_>, end: usize, out: &mut W) -> io::Result<()> {
-        let Spot { line, column, .. } = *spot;
-        write!(out, ",\"line\":{line},\"column\":{column}")?;
-        let mut ahead = self.places;
-        let Spot { line, column, .. } = ahead.place(end);
-        write!(out, ",\"end_line\":{line},\"end_column\":{column}")
     }
 
     /// Returns the end of the word or token that a finding is about, or of the part that is to be
@@ -293,6 +338,42 @@ impl<'n, 't, 's> Listing<'n, 't, 's> {
         write!(out, "; {line}:{column}: ")?;
         hint.write(text, out)
     }
+}
+
+/// Writes the line of a finding.
+fn write_line<W: Write>(
+    finding: &Finding<'_>,
+    site: &Site<'_, '_>,
+    has_colours: bool,
+    out: &mut W,
+) -> io::Result<()> {
+    write_spot(site.name, &site.spot, out)?;
+    out.write_all(finding.mark(has_colours))?;
+    finding.write_message(out)?;
+    out.write_all(b" [")?;
+    out.write_all(finding.code)?;
+    out.write_all(b"]\n")
+}
+
+/// Writes the name of a text.
+fn write_name<W: Write>(name: TextName<'_>, out: &mut W) -> io::Result<()> {
+    match name {
+        TextName::Path(path) => write_string(path, out),
+        name => {
+            out.write_all(b"\"")?;
+            name.write(&mut Escaped::new(out))?;
+            out.write_all(b"\"")
+        }
+    }
+}
+
+/// Writes the location of a finding, and that of an offset after it.
+fn write_range<W: Write>(site: &Site<'_, '_>, end: usize, out: &mut W) -> io::Result<()> {
+    let Spot { line, column, .. } = site.spot;
+    write!(out, ",\"line\":{line},\"column\":{column}")?;
+    let mut ahead = site.places;
+    let Spot { line, column, .. } = ahead.place(end);
+    write!(out, ",\"end_line\":{line},\"end_column\":{column}")
 }
 
 /// Returns what a hint suggests to write at an error, if it is a word or a mark.

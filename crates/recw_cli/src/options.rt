@@ -4,16 +4,34 @@ ghost use Rattle.std.specs.Prelude.{◌≤◌, ◌^◌};
 use crate::arguments::{MOST_BYTES, MOST_CELLS, MOST_INDENT, MOST_RESULTS, MOST_STEPS};
 use crate::wrong::{NO_RULE_PLACE, NO_WORD_PLACE, Wrong};
 use clap::ArgMatches;
+use rx_run::{InputForm, TermLines, TermRun};
 
 /// The capacity of the memo table in commands without the option.
 const MEMO: u32 = 65_536;
 
+/// The largest number of bytes of the term of a table without the option.
+const OPENED_BYTES: u64 = 16_777_216;
+
 /// The collection interval in commands without the option.
 const RECLAIM: u32 = 262_144;
+
+/// The terms of a run that are evaluated. They are counted from 1: first the EVAL terms, then the
+/// input terms.
+#[derive(Clone, Copy, Debug, PartialEq, Eq)]
+pub enum TermChoice {
+    /// All terms.
+    All,
+    /// The input terms.
+    Input,
+    /// The term with this number.
+    Nth(u64),
+}
 
 /// The options of an evaluation, each in its range.
 #[derive(Clone, Copy)]
 pub struct EvalOptions {
+    /// The terms that are evaluated.
+    pub terms: TermChoice,
     /// The step limit of each term.
     pub steps: u64,
     /// The capacity of the store, in cells.
@@ -26,6 +44,13 @@ pub struct EvalOptions {
     pub count: bool,
     /// The largest number of bytes of a result, if there is one.
     pub bytes: Option<u64>,
+    /// Whether the table of each result is printed. Then `bytes` does not count.
+    pub to_table: bool,
+    /// Whether each result is followed by its number of cells.
+    pub sizes: bool,
+    /// The largest number of nodes of the graph of the chosen term's result, if that is printed in
+    /// place of the lines.
+    pub graph: Option<u32>,
     /// Whether the limit line of an input term has its annotations.
     pub limit_annotations: bool,
     /// The call-depth limit, if there is one.
@@ -75,23 +100,45 @@ pub struct Shown<'a> {
     pub rule: Option<RulePlace>,
     /// The symbol whose calls are printed, if only one is selected.
     pub symbol: Option<&'a str>,
+    /// Whether the texts of the rules in the lines are printed.
+    pub rules: bool,
 }
 
 /// Returns the options of an evaluation. `None` if one is missing or not in its range.
 pub fn options_of(matches: &ArgMatches<'_>) -> Option<EvalOptions> {
     Some(EvalOptions {
+        terms: choice_of(matches),
         steps: matches.get_one::<u64>("steps")?.min(MOST_STEPS),
         cells: matches.get_one::<u32>("cells")?.clamp(1, MOST_CELLS),
         memo: number_of(matches, "memo", MEMO).min(MOST_RESULTS),
         reclaim: number_of(matches, "reclaim", RECLAIM).clamp(1, MOST_CELLS),
         count: matches.get_flag("count"),
         bytes: matches.get_one::<u64>("bytes").map(most_bytes),
+        to_table: matches.get_flag("to-table"),
+        sizes: matches.get_flag("sizes"),
+        graph: graph_of(matches),
         limit_annotations: matches.get_flag("limit-annotations"),
         depth: matches.get_one::<u32>("depth"),
         stuck: matches.get_flag("stuck"),
         profile: matches.get_flag("profile"),
         progress: matches.get_flag("progress"),
     })
+}
+
+/// Returns the terms that are evaluated.
+fn choice_of(matches: &ArgMatches<'_>) -> TermChoice {
+    let graph = matches.get_one::<u64>("dot");
+    match matches.get_one::<u64>("term").or(graph) {
+        Some(number) => TermChoice::Nth(number),
+        None if matches.get_flag("only-terms") => TermChoice::Input,
+        None => TermChoice::All,
+    }
+}
+
+/// Returns the largest number of nodes of a graph, if `--dot` is given with a number.
+fn graph_of(matches: &ArgMatches<'_>) -> Option<u32> {
+    matches.get_one::<u64>("dot")?;
+    matches.get_one::<u32>("nodes")
 }
 
 /// Returns the largest number of bytes, in its range.
@@ -110,6 +157,46 @@ pub fn indent_of(inner: &ArgMatches<'_>) -> Option<u8> {
     Some(indent.min(MOST_INDENT) as u8)
 }
 
+/// Returns the length of a line on which a term stays whole, if `--width` is given.
+pub fn width_of(inner: &ArgMatches<'_>) -> Option<u32> {
+    inner.get_one::<u32>("width")
+}
+
+/// Returns the form in which a term is read.
+fn form_of(inner: &ArgMatches<'_>) -> InputForm {
+    if inner.get_flag("from-table") {
+        InputForm::Table
+    } else {
+        InputForm::Term
+    }
+}
+
+/// Returns the run of `aterm` without `--indent`.
+pub fn printed_of(inner: &ArgMatches<'_>) -> TermRun<TermLines> {
+    let form = form_of(inner);
+    let lines = if inner.get_flag("to-table") {
+        TermLines::Table
+    } else {
+        match (inner.get_one::<u64>("bytes"), form) {
+            (Some(bytes), _) => TermLines::Within(most_bytes(bytes)),
+            (None, InputForm::Table) => TermLines::Within(OPENED_BYTES),
+            (None, InputForm::Term) => TermLines::Text,
+        }
+    };
+    TermRun { form, lines }
+}
+
+/// Returns the run of `share` without `--dot`.
+pub fn counted_of(inner: &ArgMatches<'_>) -> TermRun<TermLines> {
+    let lines = if inner.get_flag("to-table") {
+        TermLines::TableAndCells
+    } else {
+        TermLines::TextAndCells
+    };
+    let form = form_of(inner);
+    TermRun { form, lines }
+}
+
 /// Returns the largest number of nodes of a graph, if `--dot` is given.
 pub fn nodes_of(inner: &ArgMatches<'_>) -> Option<u32> {
     if !inner.get_flag("dot") {
@@ -122,11 +209,12 @@ pub fn nodes_of(inner: &ArgMatches<'_>) -> Option<u32> {
 pub fn shown_of<'a>(inner: &ArgMatches<'a>) -> Result<Shown<'a>, Wrong> {
     Ok(Shown {
         whole: inner.get_flag("whole"),
-        width: inner.get_one::<u32>("width"),
+        width: width_of(inner),
         first: inner.get_one::<u64>("first"),
         last: inner.get_one::<u32>("last"),
         rule: place_of(inner, "rule", NO_RULE_PLACE)?,
         symbol: inner.get_str("symbol"),
+        rules: inner.get_flag("rules"),
     })
 }
 

@@ -61,6 +61,16 @@ impl<'a> Places<'a> {
         }
     }
 
+    /// Returns a cursor at the first byte of a line, whose number and offset are given.
+    pub fn at_line(text: &'a [u8], line: usize, begin: usize) -> Places<'a> {
+        Places {
+            text,
+            at: begin,
+            line,
+            begin,
+        }
+    }
+
     /// Returns the location of an offset. The cost is the distance to the previous offset if that
     /// was not greater, and otherwise the offset itself.
     pub fn place(&mut self, at: usize) -> Spot<'a> {

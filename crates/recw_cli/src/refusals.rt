@@ -18,10 +18,10 @@ pub struct Code {
 }
 
 /// The number of error codes. They come before the warnings.
-const ERRORS: usize = 24;
+const ERRORS: usize = 26;
 
 /// The codes, in the order of the list.
-static CODES: [Code; 29] = [
+static CODES: [Code; 31] = [
     Code {
         name: "L1",
         words: "the text has more than 16777216 bytes",
@@ -167,6 +167,18 @@ static CODES: [Code; 29] = [
         fix: "give an argument that the placeholder matches",
     },
     Code {
+        name: "R1",
+        words: "table that is not a list without annotations, or has no element",
+        example: "a",
+        fix: "put the terms into a list: [a]",
+    },
+    Code {
+        name: "R2",
+        words: "placeholder of a table that is not <N>, N being an earlier element, nor <[TERM]>",
+        example: "[a,<1>]",
+        fix: "write the number of an earlier element, counted from 0: [a,<0>]",
+    },
+    Code {
         name: "W1",
         words: "unreachable rule: an earlier rule without conditions matches all that it matches",
         example: "RULES f(X) -> a f(b) -> b",
@@ -224,6 +236,8 @@ fn index_of(reason: Reason) -> usize {
         Reason::Annotated => 21,
         Reason::Count => 22,
         Reason::Kind => 23,
+        Reason::NotTable => 24,
+        Reason::Element { number: _ } => 25,
     }
 }
 

@@ -2,11 +2,12 @@
 
 use crate::command;
 use crate::options::{
-    CheckOptions, EvalOptions, RulePlace, Shown, check_of, indent_of, nodes_of, options_of,
-    shown_of, word_place_of,
+    CheckOptions, EvalOptions, RulePlace, Shown, TermChoice, check_of, counted_of, indent_of,
+    nodes_of, options_of, printed_of, shown_of, width_of, word_place_of,
 };
-use crate::wrong::{MISSING, READ_TWICE, Wrong};
+use crate::wrong::{MISSING, NO_INPUT, ONLY_FROM_TABLE, READ_TWICE, Wrong};
 use clap::{ArgMatches, Command, Error};
+use rx_run::{InputForm, TermLines, TermRun};
 use std::alloc::{AllocError, Global};
 
 /// A command with its arguments. A missing path means standard input.
@@ -24,10 +25,13 @@ pub enum Request<'a> {
         spec: Option<&'a str>,
         requests: Option<&'a str>,
     },
-    /// Print a term, over several lines if there is a number of spaces for each level.
+    /// Print a term as `run` says, or over several lines if there is a number of spaces for each
+    /// level. With a width, a term that fits on a line of this length is not divided.
     Aterm {
         file: Option<&'a str>,
         indent: Option<u8>,
+        width: Option<u32>,
+        run: TermRun<TermLines>,
     },
     /// Print each rewrite of an evaluation.
     Trace {
@@ -36,10 +40,12 @@ pub enum Request<'a> {
         spec: Option<&'a str>,
         terms: Option<&'a str>,
     },
-    /// Print a term and its number of cells, or its graph if there is a largest number of nodes.
+    /// Print a term and its number of cells as `run` says, or its graph if there is a largest number
+    /// of nodes.
     Share {
         file: Option<&'a str>,
         nodes: Option<u32>,
+        run: TermRun<TermLines>,
     },
     /// Match a pattern against a term.
     Match {
@@ -163,7 +169,7 @@ fn joined_of<'a>(alloc: Global, matches: &ArgMatches<'a>) -> Result<Vec<&'a str>
 fn given_of<'a>(alloc: Global, matches: &ArgMatches<'a>) -> Result<Vec<&'a str>, AllocError> {
     match matches.subcommand() {
         Some(("check" | "join", inner)) => copy_of(alloc, inner.get_strs("SPEC")),
-        Some((_, inner)) => copy_of(alloc, inner.get_strs("term")),
+        Some((_, inner)) => copy_of(alloc, inner.get_strs("input")),
         None => Ok(Vec::new(alloc)),
     }
 }
@@ -255,25 +261,24 @@ fn bare_of<'a>(name: &str, inner: &ArgMatches<'a>) -> Result<Bare<'a>, Wrong> {
 /// Returns the command with this name, or the error in its arguments.
 fn request_of<'a>(name: &str, inner: &ArgMatches<'a>) -> Result<Request<'a>, Wrong> {
     match name {
+        "eval" => eval_of(inner),
         "trace" => trace_of(inner),
+        "share" => share_of(inner),
         "uses" => uses_of(inner),
         _ => other_of(name, inner).ok_or(MISSING),
     }
 }
 
-/// Returns the command with this name, for all commands except `trace` and `uses`. `None` if an argument is
-/// missing, or no command has this name.
+/// Returns the command with this name, for all commands except `eval`, `trace`, `share` and `uses`.
+/// `None` if an argument is missing, or no command has this name.
 fn other_of<'a>(name: &str, inner: &ArgMatches<'a>) -> Option<Request<'a>> {
     match name {
-        "eval" => eval_of(inner),
         "serve" => serve_of(inner),
         "aterm" => Some(Request::Aterm {
             file: path_of(inner, "FILE"),
             indent: indent_of(inner),
-        }),
-        "share" => Some(Request::Share {
-            file: path_of(inner, "FILE"),
-            nodes: nodes_of(inner),
+            width: width_of(inner),
+            run: printed_of(inner),
         }),
         "match" => match_of(inner),
         "make" => make_of(inner),
@@ -291,11 +296,17 @@ fn path_of<'a>(inner: &ArgMatches<'a>, id: &str) -> Option<&'a str> {
 }
 
 /// Returns the request of `eval`.
-fn eval_of<'a>(inner: &ArgMatches<'a>) -> Option<Request<'a>> {
-    Some(Request::Eval {
-        options: options_of(inner)?,
+fn eval_of<'a>(inner: &ArgMatches<'a>) -> Result<Request<'a>, Wrong> {
+    let options = options_of(inner).ok_or(MISSING)?;
+    let terms = inner.get_str("TERMS");
+    let has_input = terms.is_some() || inner.get_strs("input").is_some();
+    if options.terms == TermChoice::Input && !has_input {
+        return Err(NO_INPUT);
+    }
+    Ok(Request::Eval {
+        options,
         spec: path_of(inner, "SPEC"),
-        terms: inner.get_str("TERMS"),
+        terms,
     })
 }
 
@@ -308,6 +319,21 @@ fn trace_of<'a>(inner: &ArgMatches<'a>) -> Result<Request<'a>, Wrong> {
         shown,
         spec: path_of(inner, "SPEC"),
         terms: inner.get_str("TERMS"),
+    })
+}
+
+/// Returns the request of `share`. The text of a table's term may have far more bytes than memory,
+/// so the term is not printed.
+fn share_of<'a>(inner: &ArgMatches<'a>) -> Result<Request<'a>, Wrong> {
+    let nodes = nodes_of(inner);
+    let run = counted_of(inner);
+    if run.form == InputForm::Table && run.lines == TermLines::TextAndCells && nodes.is_none() {
+        return Err(ONLY_FROM_TABLE);
+    }
+    Ok(Request::Share {
+        file: path_of(inner, "FILE"),
+        nodes,
+        run,
     })
 }
 

@@ -34,3 +34,15 @@ pub const NO_RULE_PLACE: Wrong = Wrong {
     kind: ErrorKind::WrongNumberOfValues,
     message: "--rule requires a line and a column, such as 3:5",
 };
+
+/// Only input terms are to be evaluated, and there are none.
+pub const NO_INPUT: Wrong = Wrong {
+    kind: ErrorKind::MissingRequiredArgument,
+    message: "--only-terms requires input terms: TERMS, or -e TERM",
+};
+
+/// The term of a table would be printed in full.
+pub const ONLY_FROM_TABLE: Wrong = Wrong {
+    kind: ErrorKind::MissingRequiredArgument,
+    message: "--from-table requires --to-table or --dot",
+};

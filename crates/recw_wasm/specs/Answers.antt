@@ -15,6 +15,7 @@ use Rattle.rx_run.specs.declared.ending.Place.{Place}
 use Rattle.rec_run.specs.Output.{IsDue, shown_by}
 use Rattle.rec_run.specs.Output.{Shown as Lines}
 use Rattle.rec_run.specs.declared.options.LimitLines.TheVariants.{Bare}
+use Rattle.rec_run.specs.declared.options.TermChoice.TheVariants.{All}
 use Rattle.rec_run.specs.declared.options.ValueForm.TheVariants.{Within}
 use Rattle.rec_check.specs.Findings.{Found}
 use Rattle.rec_check.specs.Lines.{lines_of}
@@ -43,6 +44,7 @@ shown_as options = record {
   counted = options.limits.count;
   width = Some (min (max options.width 3) (2 ^ 30));
   picked = all_picked;
+  terms = All;
 }
 
 -- the specified traces of the terms of a specification, and of input terms, if there are any

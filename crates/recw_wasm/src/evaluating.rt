@@ -9,8 +9,8 @@ use crate::handing::hand_ending;
 use crate::options::Options;
 use crate::told::Told;
 use rec_run::{
-    InputTerms, LimitLines, NoTerms, Observer, Profiler, RunOptions, RunSettings, Unwatched,
-    ValueForm, run_given,
+    InputTerms, LimitLines, NoTerms, Observer, Profiler, RunOptions, RunSettings, TermChoice,
+    Unwatched, ValueForm, run_given,
 };
 use rx_run::{Ending, RunFault};
 use rx_text::Input;
@@ -98,7 +98,9 @@ fn evaluate<G: InputTerms, P: Profiler + Drop>(
         options,
         limits: LimitLines::Bare,
         form: ValueForm::Within(MOST_BYTES),
+        sizes: false,
         depth: None,
+        terms: TermChoice::All,
     };
     let mut observer = Observer {
         watch: Unwatched,

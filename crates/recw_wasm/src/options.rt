@@ -4,7 +4,7 @@ ghost use Rattle.std.specs.Prelude.{◌≡◌, ◌^◌, max, min};
 ghost use Rattle.rec_trace_run.specs.Traces.{shown_by};
 ghost use Rattle.recw_wasm.specs.Answers.{shown_as};
 
-use rec_run::RunOptions;
+use rec_run::{RunOptions, TermChoice};
 use rec_trace_run::Picked;
 
 /// The greatest step limit.
@@ -83,6 +83,7 @@ impl TraceOptions {
             whole: self.whole,
             width: Some(self.width.max(LEAST_WIDTH).min(MOST_WIDTH)),
             picked: Picked::all(),
+            terms: TermChoice::All,
         }
     }
 }

@@ -7,7 +7,7 @@ ghost use Rattle.recw_wasm.specs.Answers.{Answers};
 use crate::handing::hand_ending;
 use crate::told::Told;
 use rx_render::run_share_dot;
-use rx_run::{print_term, share_term};
+use rx_run::{InputForm, print_term, share_term};
 use std::alloc::Global;
 
 /// Prints a term.
@@ -45,6 +45,6 @@ pub extern "C" fn recw_share_dot(
 {
     let mut text = term;
     let mut lines = Vec::new(alloc);
-    let end = run_share_dot(alloc, &mut text, nodes, &mut lines);
+    let end = run_share_dot(alloc, InputForm::Term, &mut text, nodes, &mut lines);
     hand_ending(end, lines, out, told)
 }

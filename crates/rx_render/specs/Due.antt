@@ -2,7 +2,8 @@
 use Rattle.std.specs.Prelude.{ℕ, Bool, true, false, List, ◌++◌, codes}
 use Rattle.rx_term.specs.Tree.{Tree}
 use Rattle.rx_run.specs.Due.{Due}
-use Rattle.rx_run.specs.TermRuns.{IsDueOf}
+use Rattle.rx_run.specs.TermRuns.{IsDueIn, IsDueOf}
+use Rattle.rx_run.specs.declared.term.reading.InputForm.{InputForm}
 use Rattle.rx_render.specs.Graph.{graph_text}
 use Rattle.rx_render.specs.Laid.{laid}
 use Rattle.rx_render.specs.declared.layout.Indentation.{Indentation}
@@ -20,6 +21,11 @@ IsIndentedDue l bytes d = IsDueOf (indented_lines l) bytes d
 -- IsDotDue n bytes d: the specified result if the shared graph with at most `n` nodes is written
 abbrev pub IsDotDue : ℕ → List ℕ → Due → Type 0
 IsDotDue n bytes d = IsDueOf (graph_text n) bytes d
+
+-- IsDotDueIn form n bytes d: the specified result if the shared graph of the term of a text in this
+-- form is written
+abbrev pub IsDotDueIn : InputForm → ℕ → List ℕ → Due → Type 0
+IsDotDueIn form n bytes d = IsDueIn form (graph_text n) bytes d
 
 -- lines_for it: the lines of a tree in this form
 abbrev pub lines_for : Look → Tree → List ℕ

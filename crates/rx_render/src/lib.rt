@@ -15,7 +15,7 @@
 //! ```
 //!
 //! [`run_aterm_indented`] and [`run_share_dot`] read the text of a term and write one of the two
-//! forms; [`Look`] is the form for runs of `rx_run`.
+//! forms; the graph may also be that of a table's term. [`Look`] is the form for runs of `rx_run`.
 //!
 //! **Meaning.** The indented text spells the same term as its printed form, and a whole graph has
 //! exactly one node for each different part. Module [`laws`] has these properties.

@@ -1,20 +1,20 @@
 //! Runs on the text of one term, which print it over several lines or write its shared graph.
 
-ghost use Rattle.std.specs.Prelude.{◌≡◌, ℕ, false, IfErr, IfOk, IsSome, OnOk};
+ghost use Rattle.std.specs.Prelude.{◌≡◌, ℕ, false, IfErr, IfOk, IfSome, IsSome, OnOk};
 ghost use Rattle.rx_term.specs.Store.{tree_at};
 ghost use Rattle.rx_text.specs.Output.{Writes, contents_of};
 ghost use Rattle.rx_run.specs.Run.{BreaksForBy, ConcludesFor, IsNotDeep, IsReadOut, StopsBy};
 ghost use Rattle.rx_run.specs.Run.{StopsWriting};
 ghost use Rattle.rx_run.specs.Streams.{ReportsWrite};
-ghost use Rattle.rx_run.specs.TermRuns.{lines_at};
-ghost use Rattle.rx_render.specs.Due.{IsDotDue, IsIndentedDue, indented_lines, lines_for};
+ghost use Rattle.rx_run.specs.TermRuns.{NamesElement, lines_at};
+ghost use Rattle.rx_render.specs.Due.{IsDotDueIn, IsIndentedDue, indented_lines, lines_for};
 ghost use Rattle.rx_render.specs.Due.{reclaims_others};
 ghost use Rattle.rx_render.specs.Graph.{graph_text};
 
 use crate::drawing::{Extent, write_graph_to};
 use crate::indented::write_indented_to;
 use crate::layout::Indentation;
-use rx_run::{Ending, RunFault, TermOutput, keep_alone, run_on_term};
+use rx_run::{Ending, InputForm, RunFault, TermOutput, TermRun, keep_alone, run_on_term};
 use rx_term::{Term, TermBank};
 use rx_text::{Input, Output};
 use std::alloc::Global;
@@ -73,28 +73,39 @@ pub fn run_aterm_indented<R: Read, W: Write>(
 {
     let mut input = Input::new(input);
     let mut output = Output::new(out);
-    run_on_term(alloc, &mut input, &mut output, &Look::Indented(indentation))
+    let run = TermRun {
+        form: InputForm::Term,
+        lines: Look::Indented(indentation),
+    };
+    run_on_term(alloc, &mut input, &mut output, &run)
 }
 
-/// Reads the text of a term and writes its shared graph for Graphviz with at most `nodes` nodes, or
-/// its error line. Flushes at the end. An error reports 0 lines. The position of the reader is then
-/// unspecified.
+/// Reads an input in this form and writes the shared graph of its term for Graphviz with at most
+/// `nodes` nodes, or its error line. Flushes at the end. An error reports 0 lines. The position of
+/// the reader is then unspecified.
 pub fn run_share_dot<R: Read, W: Write>(
     alloc: Global,
+    form: InputForm,
     input: &mut R,
     nodes: u32,
     out: &mut W,
 ) -> Result<Ending, RunFault>
-    ensures ends { IfOk result (λ ending. ConcludesFor (IsDotDue nodes) (R.remaining input.old)
-        ending (W.contents out.old) (W.contents out.new)) }
-    ensures fault { IfErr result (λ fault. BreaksForBy false (IsDotDue nodes)
+    ensures ends { IfOk result (λ ending. ConcludesFor (IsDotDueIn form nodes)
+        (R.remaining input.old) ending (W.contents out.old) (W.contents out.new)) }
+    ensures element { IfOk result
+        (λ ending. IfSome (R.remaining input.old) (NamesElement ending)) }
+    ensures fault { IfErr result (λ fault. BreaksForBy false (IsDotDueIn form nodes)
         (R.remaining input.old) fault (W.contents out.old) (W.contents out.new)) }
     ensures no_depth { IfErr result IsNotDeep }
     ensures input_read { OnOk result (IsReadOut (R.remaining input.old) (R.remaining input.new)) }
 {
     let mut input = Input::new(input);
     let mut output = Output::new(out);
-    run_on_term(alloc, &mut input, &mut output, &Look::Graph(nodes))
+    let run = TermRun {
+        form,
+        lines: Look::Graph(nodes),
+    };
+    run_on_term(alloc, &mut input, &mut output, &run)
 }
 
 /// Writes the text of a term over several lines, and a line end.

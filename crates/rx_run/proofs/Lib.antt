@@ -13,6 +13,8 @@ mod ReadLemmas
 pub mod RefusedItemLemmas
 pub mod ReportLemmas
 pub mod StreamLemmas
+mod TableLineLemmas
 pub mod TermDueLemmas
+mod TermLineLemmas
 mod TermRunRows
 pub mod WholeRunLemmas

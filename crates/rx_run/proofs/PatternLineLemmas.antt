@@ -1,11 +1,11 @@
 -- The lines of an answer: which are due, and what is left where writing them stops.
 use Rattle.std.proofs.Common.{◌≡◌, ℕ, ◌+◌, ◌<◌, List, [], ◌∷◌, ◌++◌, Option, Some, None, true, false, IfSome, IsSome}
 use Rattle.std.proofs.Common.{length, take, drop, get_or, refl, sym, ap, subst, ◌∙◌, arith, append-nil, take-append-drop}
-use Rattle.std.specs.Prelude.{codes, flat_map}
+use Rattle.std.specs.Prelude.{IsTrue, codes, flat_map}
 use Rattle.std.proofs.lemmas.List.{take_more, length-take}
 use Rattle.std.proofs.lemmas.List.Concat.{flat_map-append}
 use Rattle.std.specs.Io.KnownBytes.{Appends}
-use Rattle.rx_term.specs.Tree.{Tree}
+use Rattle.rx_term.specs.Tree.{Tree, is_tree}
 use Rattle.rx_term.specs.Steps.{IsSound}
 use Rattle.rx_term.specs.Store.{Store, tree_at}
 use Rattle.rx_term.specs.Walks.{AllHeld, HaveTrees}
@@ -18,7 +18,7 @@ use Rattle.rx_text.specs.Written.{AppendsFront}
 use Rattle.rx_run.specs.Bytes.{newlines}
 use Rattle.rx_run.specs.Due.{done}
 use Rattle.rx_run.specs.Run.{Stops, StopsAfter}
-use Rattle.rx_run.specs.TermRuns.{line_at, term_line}
+use Rattle.rx_run.specs.TermRuns.{line_at, lines_at, term_line}
 use Rattle.rx_run.specs.PatternRuns.{match_lines}
 use Rattle.rx_run.specs.declared.ending.RunFault.{RunFault}
 use Rattle.rx_run.specs.declared.ending.RunFault.TheVariants as fault
@@ -73,50 +73,60 @@ ends_of_lines w (r ∷ rs) sound h =
 refused_within : (lines : ℕ) (text : List ℕ) (between new : Option (List ℕ)) → AppendsFront text between new → StopsAfter lines fault.Write text between new
 refused_within lines text between new (front, a, rest) = record { written = front; appended = a; front = rest; reported = tt }
 
--- memory ran out within the printed text of a tree
-stops_memory_in : (lines : ℕ) (u : Tree) (between new : Option (List ℕ)) → newlines (canon u) ≡ 0 → AppendsFront (canon u) between new
-    → StopsAfter lines (fault.Memory lines) (term_line u) between new
-stops_memory_in lines u between new none (front, a, (rest, e)) =
-    let no = newlines-front front rest (ap newlines (sym e) ∙ none) in
-    record {
-      written = front;
-      appended = a;
-      front = (rest ++ codes "\n", front_in_line (canon u) front rest e);
-      reported = omega (arith, no);
-    }
+-- lines that are a text of a tree and a line end
+module _ (text : Tree → List ℕ) where
+  abbrev pub line : Tree → List ℕ
+  line u = text u ++ codes "\n"
 
--- what holds of the line of a reference that is held, by what holds of its tree
-line_held : (w : Store) (t : Term) (P : Tree → Type 0) (Q : List ℕ → Type 0) → IsSome (tree_at w t) → IfSome (tree_at w t) P
-    → ((u : Tree) → tree_at w t ≡ Some u → P u → Q (term_line u)) → Q (line_at w t)
-line_held w t P Q held h so = by (tree_at w t) refl held h
-  where
-    by : (o : Option Tree) → tree_at w t ≡ o → IsSome o → IfSome o P → Q (line_at w t)
-    by None e k p = absurd (cc k)
-    by (Some u) e k p = rw e (so u e p)
+  -- memory ran out within the text of a tree
+  stops_memory_in : (lines : ℕ) (u : Tree) (between new : Option (List ℕ)) → newlines (text u) ≡ 0 → AppendsFront (text u) between new
+      → StopsAfter lines (fault.Memory lines) (line u) between new
+  stops_memory_in lines u between new none (front, a, (rest, e)) =
+      let no = newlines-front front rest (ap newlines (sym e) ∙ none) in
+      record {
+        written = front;
+        appended = a;
+        front = (rest ++ codes "\n", front_in_line (text u) front rest e);
+        reported = omega (arith, no);
+      }
 
-pub stops_memory : (w : Store) (t : Term) (lines : ℕ) (between new : Option (List ℕ)) → IsSound w → IsSome (tree_at w t)
-    → IfSome (tree_at w t) (λ u. AppendsFront (canon u) between new) → StopsAfter lines (fault.Memory lines) (line_at w t) between new
-stops_memory w t lines between new sound held h =
-    line_held w t (λ u. AppendsFront (canon u) between new) (λ text. StopsAfter lines (fault.Memory lines) text between new) held h
-    (λ u e f. stops_memory_in lines u between new (in_line-newlines (canon u) (stays_in_line u (sound.valid t u e)).0) f)
+  -- what holds of the line of a reference that is held, by what holds of its tree
+  line_held : (w : Store) (t : Term) (P : Tree → Type 0) (Q : List ℕ → Type 0) → IsSome (tree_at w t) → IfSome (tree_at w t) P
+      → ((u : Tree) → tree_at w t ≡ Some u → P u → Q (line u)) → Q (lines_at line w t)
+  line_held w t P Q held h so = by (tree_at w t) refl held h
+    where
+      by : (o : Option Tree) → tree_at w t ≡ o → IsSome o → IfSome o P → Q (lines_at line w t)
+      by None e k p = absurd (cc k)
+      by (Some u) e k p = rw e (so u e p)
 
--- the writer refused the printed text, or the line end
-pub text_refused : (w : Store) (t : Term) (lines : ℕ) (between new : Option (List ℕ)) → IsSome (tree_at w t)
-    → IfSome (tree_at w t) (λ u. AppendsFront (canon u) between new) → StopsAfter lines fault.Write (line_at w t) between new
-text_refused w t lines between new held h =
-    line_held w t (λ u. AppendsFront (canon u) between new) (λ text. StopsAfter lines fault.Write text between new) held h
-    (λ u e f. refused_within lines (term_line u) between new (front_before between new (canon u) (codes "\n") f))
+  pub stops_memory : (w : Store) (t : Term) (lines : ℕ) (between new : Option (List ℕ)) → IsSound w → ((u : Tree) → IsTrue (is_tree u) → newlines (text u) ≡ 0)
+      → IsSome (tree_at w t) → IfSome (tree_at w t) (λ u. AppendsFront (text u) between new) → StopsAfter lines (fault.Memory lines) (lines_at line w t) between new
+  stops_memory w t lines between new sound none held h =
+      line_held w t (λ u. AppendsFront (text u) between new) (λ x. StopsAfter lines (fault.Memory lines) x between new) held h
+      (λ u e f. stops_memory_in lines u between new (none u (sound.valid t u e)) f)
 
-pub end_refused : (w : Store) (t : Term) (lines : ℕ) (between mid new : Option (List ℕ)) → IsSome (tree_at w t)
-    → IfSome (tree_at w t) (λ u. Appends between mid (canon u)) → AppendsFront (codes "\n") mid new → StopsAfter lines fault.Write (line_at w t) between new
-end_refused w t lines between mid new held h f =
-    line_held w t (λ u. Appends between mid (canon u)) (λ text. StopsAfter lines fault.Write text between new) held h
-    (λ u e a. refused_within lines (term_line u) between new (front_after between mid new (canon u) (codes "\n") a f))
+  -- the writer refused the text, or the line end
+  pub text_refused : (w : Store) (t : Term) (lines : ℕ) (between new : Option (List ℕ)) → IsSome (tree_at w t)
+      → IfSome (tree_at w t) (λ u. AppendsFront (text u) between new) → StopsAfter lines fault.Write (lines_at line w t) between new
+  text_refused w t lines between new held h =
+      line_held w t (λ u. AppendsFront (text u) between new) (λ x. StopsAfter lines fault.Write x between new) held h
+      (λ u e f. refused_within lines (line u) between new (front_before between new (text u) (codes "\n") f))
 
-pub line_written : (w : Store) (t : Term) (old mid new : Option (List ℕ)) → IsSome (tree_at w t)
-    → IfSome (tree_at w t) (λ u. Appends old mid (canon u)) → Appends mid new (codes "\n") → Appends old new (line_at w t)
-line_written w t old mid new held h k =
-    line_held w t (λ u. Appends old mid (canon u)) (λ text. Appends old new text) held h (λ u e a. appends_both old mid new (canon u) (codes "\n") a k)
+  pub end_refused : (w : Store) (t : Term) (lines : ℕ) (between mid new : Option (List ℕ)) → IsSome (tree_at w t)
+      → IfSome (tree_at w t) (λ u. Appends between mid (text u)) → AppendsFront (codes "\n") mid new
+      → StopsAfter lines fault.Write (lines_at line w t) between new
+  end_refused w t lines between mid new held h f =
+      line_held w t (λ u. Appends between mid (text u)) (λ x. StopsAfter lines fault.Write x between new) held h
+      (λ u e a. refused_within lines (line u) between new (front_after between mid new (text u) (codes "\n") a f))
+
+  pub line_written : (w : Store) (t : Term) (old mid new : Option (List ℕ)) → IsSome (tree_at w t)
+      → IfSome (tree_at w t) (λ u. Appends old mid (text u)) → Appends mid new (codes "\n") → Appends old new (lines_at line w t)
+  line_written w t old mid new held h k =
+      line_held w t (λ u. Appends old mid (text u)) (λ x. Appends old new x) held h (λ u e a. appends_both old mid new (text u) (codes "\n") a k)
+
+-- the printed form of a valid tree has no line end
+pub canon_none : (u : Tree) → IsTrue (is_tree u) → newlines (canon u) ≡ 0
+canon_none u h = in_line-newlines (canon u) (stays_in_line u h).0
 
 -- a fault after no line
 pub stops_first : (f : RunFault) (text : List ℕ) (old new : Option (List ℕ)) → StopsAfter 0 f text old new → Stops f text old new

@@ -1,2 +1,3 @@
 -- Definitions that only proofs and contracts inside this crate use.
 pub mod PatternAnswers
+pub mod TermReadings

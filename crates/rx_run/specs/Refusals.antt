@@ -36,6 +36,8 @@ name_of reason.Annotated = codes "P2"
 name_of reason.Unlisted = codes "T1"
 name_of reason.Count = codes "M1"
 name_of reason.Kind = codes "M2"
+name_of reason.NotTable = codes "R1"
+name_of (reason.Element number) = codes "R2"
 
 -- place_by text r: the location of the error; only `G`, `S1` to `S11` and `A` have one
 abbrev pub place_by : Source → Reason → Option Place

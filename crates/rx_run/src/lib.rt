@@ -2,7 +2,8 @@
 //!
 //! A run reads bytes, writes lines and ends. [`print_term`] and [`share_term`] run on the text of
 //! one term, [`match_term`] matches a pattern with a term, and [`make_term`] fills a pattern with
-//! arguments. An input that is rejected makes the run write one error line, such as `!term A`. Runs
+//! arguments. [`run_on_term`] also reads tables ([`InputForm`]), and writes tables and lines of a
+//! limited length ([`TermLines`]). An input that is rejected makes the run write one error line, such as `!term A`. Runs
 //! of whole specifications are in `rec_run`, which uses this crate.
 //!
 //! ```text
@@ -50,8 +51,8 @@ pub use shorthand::{
 };
 pub use streams::{LIMIT, read_all_from};
 pub use term::output::{TermLines, TermOutput, keep_alone};
-pub use term::reading::{MOST_CELLS, empty_bank, parse};
-pub use term::runs::{print_term, run_on_term, run_on_term_over, share_term};
+pub use term::reading::{InputForm, MOST_CELLS, empty_bank, parse};
+pub use term::runs::{TermRun, print_term, run_on_term, run_on_term_over, share_term};
 pub use writing::{
     put_numbered, put_numbered_to, write_line_to, write_refusal_to, write_steps, write_steps_to,
 };

@@ -31,6 +31,12 @@ pub enum Reason {
     Count,
     /// `M2`: a placeholder does not accept its argument.
     Kind,
+    /// `R1`: a table is not a list without annotations that has an element.
+    NotTable,
+    /// `R2`: in the element of a table with this number, counted from 0, a placeholder is neither
+    /// the number of an earlier element nor a list of one item, or a number, its placeholder or such
+    /// a list has annotations.
+    Element { number: usize },
 }
 
 /// Prints the error code.
@@ -47,6 +53,8 @@ impl fmt::Display for Reason {
             Reason::Unlisted => f.write_str("T1"),
             Reason::Count => f.write_str("M1"),
             Reason::Kind => f.write_str("M2"),
+            Reason::NotTable => f.write_str("R1"),
+            Reason::Element { number: _ } => f.write_str("R2"),
         }
     }
 }

@@ -67,6 +67,8 @@ fn write_name<W: Write>(reason: Reason, out: &mut Output<'_, W>) -> Result<(), R
         Reason::Unlisted => out.put(b"T1"),
         Reason::Count => out.put(b"M1"),
         Reason::Kind => out.put(b"M2"),
+        Reason::NotTable => out.put(b"R1"),
+        Reason::Element { number: _ } => out.put(b"R2"),
     }
 }
 

@@ -1,43 +1,32 @@
--- The elements of a table, in progress.
+-- Loops over the parts of a tree: each is made of those inside of it. The elements of a table.
 use Rattle.std.proofs.Common.{◌≡◌, ℕ, zero, suc, ◌+◌, ◌<◌, ◌≤◌, Bool, true, false, cond, List, [], ◌∷◌, ◌++◌}
-use Rattle.std.proofs.Common.{Option, Some, None, IsSome, refl, sym, ap, subst, ◌∙◌, length, filter, map, take, drop, get_or, arith}
+use Rattle.std.proofs.Common.{Option, Some, None, IsSome, refl, sym, ap, subst, ◌∙◌, append_assoc, append-nil, length, filter, map, take, drop, get_or, arith}
 use Rattle.std.proofs.lemmas.List.{take_more}
 use Rattle.std.proofs.Math.Seq.{drop-cons}
 use Rattle.std.proofs.Common.{take-append-drop, Result, Ok, Err, IfOk}
 use Rattle.rx_table.specs.declared.faults.TableFault.{TableFault}
 use Rattle.std.specs.Prelude.{nat_eq, nat_lt, position}
 use Rattle.std.specs.List.{AllByRecursion, list_any, position_or_len}
+use Rattle.std.specs.Option.{option_map}
 use Rattle.std.proofs.lemmas.Bool.Decides.{Decides-eqb}
 use Rattle.indexmap.specs.IndexMap.{IndexMap, get}
-use Rattle.rx_term.specs.Tree.{Tree, Trees, Int, Appl, Items, Hole, none, more, annotated, annotations, from_list, list_of, tree_eq, to_list}
-use Rattle.std.specs.Option.{option_and_then}
-use Rattle.rx_term.specs.Kinds.{HasHole}
-use Rattle.rx_term.specs.Store.{Store, tree_at, part_at, inner_of}
+use Rattle.rx_term.specs.Tree.{Tree, Trees, Int, Appl, Items, Hole, none, more, annotations, from_list, list_of, tree_eq, to_list}
+use Rattle.rx_term.specs.Store.{Store, tree_at}
 use Rattle.rx_term.specs.Steps.{Grows, IsSound}
 use Rattle.rx_term.specs.Walks.{HaveTrees, held_tree}
 use Rattle.rx_term.specs.declared.Term.{Term}
 use Rattle.rx_term.proofs.StoreLemmas.{Grows-refl, Grows-trans}
 use Rattle.rx_term.proofs.TreeLemmas.{to_from_list}
-use Rattle.rx_table.specs.Table.{different, direct, entry, is_shared, numbered, reference, shared, subterms, table, written}
+use Rattle.rx_table.specs.Table.{different, direct, entry, is_shared, numbered, reference, shared, subterms, table, written, written_all}
 use Rattle.rx_table.specs.Inner.Walk.{AreAmong, AreThere, Begun, IsAmong, body_items, term_of, trees_of}
-use Rattle.rx_table.specs.Inner.Made.{HasAll, HasOne, IsBody, IsBodyOrHole, IsEach, IsEntryBody, IsHole, IsMadeOf, Made, entries_of, some_written}
-use Rattle.rx_table.proofs.SubtermLemmas.{all-at, all-both, all-left, all-right, among-first, among-right, among-still, are-same, subterms-inside, direct-inside, inside, inside-before}
+use Rattle.rx_table.specs.Inner.Made.{Gives, HasAll, HasOne, Made, each, entries_of, remade, some_written}
+use Rattle.rx_table.specs.declared.made.Content.TheVariants.{Bare, Listed}
+use Rattle.rx_table.proofs.SubtermLemmas.{all-at, all-both, all-left, all-right, among-first, among-right, among-still, are-same, begun-different, begun-subterms, subterms-inside, direct-inside, inside, inside-before}
 use Rattle.rx_table.proofs.TableLemmas.{among-filter, filter-among}
-use Rattle.rx_table.proofs.WalkLemmas.{any-map, direct-both, have-both, have-grown, held-at, held-is, map-both, same-references, some-tree}
-use Rattle.rx_table.proofs.MadeLemmas.{all-grown, one-grown, body-bare, body-entry, each-written, held-grown, made-grown, some-grown}
+use Rattle.rx_table.proofs.WalkLemmas.{any-map, have-both, have-grown, held-at, held-is, map-both, same-references, some-tree}
+use Rattle.rx_table.proofs.MadeLemmas.{made-grown, one-got}
 
--- ---- trees of references in a store that has grown
-
-pub there-grown : (w v : Store) → Grows w v → (ns : List ℕ) → AreThere w ns → AreThere v ns
-there-grown w v g [] h = tt
-there-grown w v g (n ∷ ns) h = (some-grown w v g (term_of n) h.0, there-grown w v g ns h.1)
-
-pub trees-grown : (w v : Store) → Grows w v → (ns : List ℕ) → AreThere w ns → trees_of v ns ≡ trees_of w ns
-trees-grown w v g [] h = refl
-trees-grown w v g (n ∷ ns) h =
-    let a = held-grown w v g (term_of n) h.0 in
-    let b = trees-grown w v g ns h.1 in
-    ap (λ z. z ∷ trees_of v ns) a ∙ ap (λ z. held_tree w (term_of n) ∷ z) b
+-- ---- references of parts
 
 pub there-at : (w : Store) (ns : List ℕ) (i : ℕ) → AreThere w ns → i < length ns → IsSome (tree_at w (term_of (get_or ns i 0)))
 there-at w [] i h lt = absurd (omega arith)
@@ -61,25 +50,13 @@ module _ (w : Store) (ns : List ℕ) (i : ℕ) (lt : i < length ns) where
       let cut : ns ≡ take i ns ++ get_or ns i 0 ∷ drop (suc i) ns = sym (take-append-drop i ns) ∙ ap (λ z. take i ns ++ z) (drop-cons ns i 0 lt) in
       ap (trees_of w) cut ∙ map-both (λ n. held_tree w (term_of n)) (take i ns) (get_or ns i 0 ∷ drop (suc i) ns)
 
-  pub inside-taken : Begun (trees_of w ns) → AreAmong (inside (held_tree w (term_of (get_or ns i 0)))) (trees_of w (take i ns))
-  inside-taken h = inside-before (held_tree w (term_of (get_or ns i 0))) (trees_of w (take i ns)) (trees_of w (drop (suc i) ns)) (subst Begun split h)
-
 each-of : (P : Tree → Type 0) (ts us : List Tree) → AllByRecursion P ts → AreAmong us ts → AllByRecursion P us
 each-of P ts [] h k = tt
 each-of P ts (u ∷ us) h k = (all-at P ts u h k.0, each-of P ts us h k.1)
 
 module _ {S : Type 0} where
-  pub has-among : (w : Store) (made : IndexMap ℕ Term S) (ts us : List Tree) → HasAll w made ts → AreAmong us ts → HasAll w made us
-  has-among w made ts us h k = each-of (HasOne w made) ts us h k
-
-among-trans : (xs ys zs : List Tree) → AreAmong xs ys → AreAmong ys zs → AreAmong xs zs
-among-trans xs ys zs h k = each-of (λ x. IsAmong x zs) ys xs k h
-
-pub direct-taken : (w : Store) (ns : List ℕ) (i : ℕ) → i < length ns → Begun (trees_of w ns)
-    → AreAmong (direct (held_tree w (term_of (get_or ns i 0)))) (trees_of w (take i ns))
-direct-taken w ns i lt h =
-    let t = held_tree w (term_of (get_or ns i 0)) in
-    among-trans (direct t) (inside t) (trees_of w (take i ns)) (direct-inside t) (inside-taken w ns i lt h)
+  pub has-among : (v : Store) (made : IndexMap ℕ Term S) (ts us : List Tree) → HasAll v made ts → AreAmong us ts → HasAll v made us
+  has-among v made ts us h k = each-of (HasOne v made) ts us h k
 
 -- ---- the elements so far
 
@@ -96,81 +73,107 @@ filter-last p (x ∷ xs) t = by (p x) refl (filter-last p xs t)
     by true e k = rw e (ap (λ z. x ∷ z) k)
     by false e k = rw e k
 
+-- ---- the parts so far
+
+pub take-whole : (xs : List ℕ) (j : ℕ) → length xs ≤ j → take j xs ≡ xs
+take-whole [] zero le = refl
+take-whole [] (suc j) le = refl
+take-whole (x ∷ xs) zero le = absurd (omega arith)
+take-whole (x ∷ xs) (suc j) le = ap (λ z. x ∷ z) (take-whole xs j (omega arith))
+
 module _ {S : Type 0} where
-  pub record Entries (w : Store) (ps : List Tree) (parts : List ℕ) (i : ℕ) (v : Store) (made : IndexMap ℕ Term S) (entries : List Term) : Type 0 where
-    pub grows : Grows w v
-    pub terms : Made v (some_written ps) made
-    pub has : HasAll v made (trees_of w (take i parts))
-    pub listed : HaveTrees v entries (map (entry ps) (filter (λ u. list_any (tree_eq u) ps) (trees_of w (take i parts))))
-
-  pub entries-begin : (w : Store) (ps : List Tree) (parts : List ℕ) (made : IndexMap ℕ Term S) (entries : List Term) → made.entries ≡ [] → entries ≡ []
-      → Entries w ps parts 0 w made entries
-  entries-begin w ps parts made entries e k = record {
-    grows = Grows-refl w;
-    terms = λ n r got. absurd (let q : None ≡ Some r = rw e at got in cc q);
-    has = tt;
-    listed = subst (λ z. HaveTrees w z []) (sym k) tt;
-  }
-
   -- a map with one term more
-  module _ (v : Store) (old new : IndexMap ℕ Term S) (n : ℕ) (r : Term) (updates : (q : ℕ) → get nat_eq new q ≡ cond (nat_eq n q) (Some r) (get nat_eq old q)) where
-    pub made-more : (f : Tree → Option Tree) → Made v f old → IsMadeOf v f n r → Made v f new
-    made-more f h k m x got = by (nat_eq n m) refl
+  module _ (v u : Store) (old new : IndexMap ℕ Term S) (n : ℕ) (r : Term) (updates : (q : ℕ) → get nat_eq new q ≡ cond (nat_eq n q) (Some r) (get nat_eq old q)) where
+    made-more : (f : Tree → Option Tree) → Made v u f old → IsSome (tree_at u r) → ((t : Tree) → tree_at v (term_of n) ≡ Some t → f t ≡ tree_at u r) → Made v u f new
+    made-more f h some k m x got = by (nat_eq n m) refl
       where
-        by : (b : Bool) → nat_eq n m ≡ b → IsMadeOf v f m x
+        by : (b : Bool) → nat_eq n m ≡ b → IsSome (tree_at u x) × ((t : Tree) → tree_at v (term_of m) ≡ Some t → f t ≡ tree_at u x)
         by true e =
             let same = (Decides-eqb n m).0 e in
-            let is : r ≡ x = (let q : Some r ≡ Some x = sym (updates m ∙ ap (λ b. cond b (Some r) (get nat_eq old m)) e) ∙ got in cc q) in
-            subst (λ z. IsMadeOf v f m z) is (subst (λ z. IsMadeOf v f z r) same k)
+            let is : r ≡ x = (let q : Some r ≡ Some x = sym (updates m ∙ ap (λ b. cond b (Some r) (get nat_eq old m)) e) ∙ got in cc q) in (
+              subst (λ (z : Term). IsSome (tree_at u z)) is some,
+              λ t at. k t (ap (λ z. tree_at v (term_of z)) same ∙ at) ∙ ap (tree_at u) is,
+            )
         by false e = h m x (sym (updates m ∙ ap (λ b. cond b (Some r) (get nat_eq old m)) e) ∙ got)
 
-    held-more : IsSome (tree_at v r) → (t : Tree) → HasOne v old t → HasOne v new t
-    held-more h t (m, (x, at, got, held)) = by (nat_eq n m) refl
+    one-more : (t : Tree) → HasOne v old t → HasOne v new t
+    one-more t (m, at, got) = by (nat_eq n m) refl
       where
         by : (b : Bool) → nat_eq n m ≡ b → HasOne v new t
-        by true e = (m, (r, at, updates m ∙ ap (λ b. cond b (Some r) (get nat_eq old m)) e, h))
-        by false e = (m, (x, at, updates m ∙ ap (λ b. cond b (Some r) (get nat_eq old m)) e ∙ got, held))
+        by true e = (m, at, subst IsSome (sym (updates m ∙ ap (λ b. cond b (Some r) (get nat_eq old m)) e)) refl)
+        by false e = (m, at, subst IsSome (sym (updates m ∙ ap (λ b. cond b (Some r) (get nat_eq old m)) e)) got)
 
-    pub has-more : IsSome (tree_at v r) → (ts : List Tree) → HasAll v old ts → HasAll v new ts
-    has-more h [] k = tt
-    has-more h (t ∷ ts) k = (held-more h t k.0, has-more h ts k.1)
+    has-more : (ts : List Tree) → HasAll v old ts → HasAll v new ts
+    has-more [] k = tt
+    has-more (t ∷ ts) k = (one-more t k.0, has-more ts k.1)
 
-    pub has-new : IsSome (tree_at v r) → (t : Tree) → tree_at v (term_of n) ≡ Some t → HasOne v new t
-    has-new h t at = (n, (r, at, updates n ∙ ap (λ b. cond b (Some r) (get nat_eq old n)) ((Decides-eqb n n).1 refl), h))
+    has-new : (t : Tree) → tree_at v (term_of n) ≡ Some t → HasOne v new t
+    has-new t at = (n, at, subst IsSome (sym (updates n ∙ ap (λ b. cond b (Some r) (get nat_eq old n)) ((Decides-eqb n n).1 refl))) refl)
 
-  -- one part more: its element, where it is shared, and how it is written
-  pub entries-next : (w : Store) (ps : List Tree) (parts : List ℕ) (i : ℕ) (v u : Store) (old new : IndexMap ℕ Term S) (entries added : List Term)
-      (r : Term) → (lt : i < length parts) → AreThere w parts → Entries w ps parts i v old entries → Grows v u
+  -- the terms of the first `i` of the trees `parts` were added to the map `first`, each with the tree
+  -- that `f` gives
+  pub record Parts (v w : Store) (f : Tree → Option Tree) (parts : List ℕ) (first : IndexMap ℕ Term S) (i : ℕ) (u : Store) (made : IndexMap ℕ Term S) : Type 0 where
+    pub grows : Grows w u
+    pub terms : Made v u f made
+    pub has : (before : List Tree) → HasAll v first before → HasAll v made (before ++ trees_of v (take i parts))
+
+  pub parts-begin : (v w : Store) (f : Tree → Option Tree) (parts : List ℕ) (first : IndexMap ℕ Term S) → Made v w f first → Parts v w f parts first 0 w first
+  parts-begin v w f parts first h = record {
+    grows = Grows-refl w;
+    terms = h;
+    has = λ before k. subst (HasAll v first) (sym (append-nil before)) k;
+  }
+
+  -- an empty map
+  pub none-made : (v w : Store) (f : Tree → Option Tree) (made : IndexMap ℕ Term S) → made.entries ≡ [] → Made v w f made
+  none-made v w f made e n r got = absurd (let q : None ≡ Some r = rw e at got in cc q)
+
+  -- what a part needs
+  pub part-has : (v w : Store) (f : Tree → Option Tree) (parts : List ℕ) (first : IndexMap ℕ Term S) (i : ℕ) (u : Store) (made : IndexMap ℕ Term S)
+      → i < length parts → (before : List Tree) → Begun (before ++ trees_of v parts) → HasAll v first before → Parts v w f parts first i u made
+      → HasAll v made (inside (held_tree v (term_of (get_or parts i 0))))
+  part-has v w f parts first i u made lt before begun had k =
+      let t = held_tree v (term_of (get_or parts i 0)) in
+      let cut : before ++ trees_of v parts ≡ (before ++ trees_of v (take i parts)) ++ t ∷ trees_of v (drop (suc i) parts) =
+      ap (λ z. before ++ z) (split v parts i lt) ∙ sym (append_assoc before (trees_of v (take i parts)) (t ∷ trees_of v (drop (suc i) parts))) in
+      let among = inside-before t (before ++ trees_of v (take i parts)) (trees_of v (drop (suc i) parts)) (subst Begun cut begun) in
+      has-among v made (before ++ trees_of v (take i parts)) (inside t) (k.has before had) among
+
+  pub direct-has : (v : Store) (made : IndexMap ℕ Term S) (t : Tree) → HasAll v made (inside t) → HasAll v made (direct t)
+  direct-has v made t h = has-among v made (inside t) (direct t) h (direct-inside t)
+
+  -- one part more
+  pub parts-next : (v w : Store) (f : Tree → Option Tree) (parts : List ℕ) (first : IndexMap ℕ Term S) (i : ℕ) (m u : Store) (old new : IndexMap ℕ Term S) (r : Term)
+      → i < length parts → AreThere v parts → Parts v w f parts first i m old → Grows m u → IsSome (tree_at u r)
+      → f (held_tree v (term_of (get_or parts i 0))) ≡ tree_at u r
       → ((q : ℕ) → get nat_eq new q ≡ cond (nat_eq (get_or parts i 0) q) (Some r) (get nat_eq old q))
-      → tree_at u r ≡ Some (written ps (held_tree w (term_of (get_or parts i 0))))
-      → HaveTrees u added (map (entry ps) (cond (list_any (tree_eq (held_tree w (term_of (get_or parts i 0)))) ps)
-      (held_tree w (term_of (get_or parts i 0)) ∷ []) []))
-      → Entries w ps parts (i + 1) u new (entries ++ added)
-  entries-next w ps parts i v u old new entries added r lt there k g updates here have =
+      → Parts v w f parts first (i + 1) u new
+  parts-next v w f parts first i m u old new r lt there k g some is updates =
       let n = get_or parts i 0 in
-      let t = held_tree w (term_of n) in
-      let p : Tree → Bool = λ x. list_any (tree_eq x) ps in
-      let all = Grows-trans k.grows g in
-      let held = there-at w parts i there lt in
-      let at : tree_at u (term_of n) ≡ Some t = all.trees (term_of n) t (held-at w (term_of n) held) in
-      let some = some-tree u r (written ps t) here in
-      let f = some_written ps in
-      let is : IsMadeOf u f n r = (some-tree u (term_of n) t at, some, ap f (held-is u (term_of n) t at) ∙ sym here) in
-      let more = taken-more w parts i lt in
-      let all-listed : map (entry ps) (filter p (trees_of w (take (i + 1) parts)))
-      ≡ map (entry ps) (filter p (trees_of w (take i parts))) ++ map (entry ps) (cond (p t) (t ∷ []) []) =
-      ap (λ z. map (entry ps) (filter p z)) more ∙ ap (map (entry ps)) (filter-last p (trees_of w (take i parts)) t)
-      ∙ map-both (entry ps) (filter p (trees_of w (take i parts))) (cond (p t) (t ∷ []) []) in
+      let t = held_tree v (term_of n) in
+      let at = held-at v (term_of n) (there-at v parts i there lt) in
       record {
-        grows = all;
-        terms = made-more u old new n r updates f (made-grown v u g f old k.terms) is;
-        has = subst (HasAll u new) (sym more) (all-both (HasOne u new) (trees_of w (take i parts)) (t ∷ [])
-            (has-more u old new n r updates some (trees_of w (take i parts)) (all-grown v u g old (trees_of w (take i parts)) k.has))
-            (has-new u old new n r updates some t at, tt));
-        listed = subst (HaveTrees u (entries ++ added)) (sym all-listed)
-            (have-both u entries added (map (entry ps) (filter p (trees_of w (take i parts)))) (map (entry ps) (cond (p t) (t ∷ []) []))
-            (have-grown v u g entries (map (entry ps) (filter p (trees_of w (take i parts)))) k.listed) have);
+        grows = Grows-trans k.grows g;
+        terms = made-more v u old new n r updates f (made-grown v m u g f old k.terms) some
+            (λ x here. ap f (sym (held-is v (term_of n) x here)) ∙ is);
+        has = λ before h.
+            let xs = before ++ trees_of v (take i parts) in
+            let listed : before ++ trees_of v (take (i + 1) parts) ≡ xs ++ t ∷ [] =
+            ap (λ z. before ++ z) (taken-more v parts i lt) ∙ sym (append_assoc before (trees_of v (take i parts)) (t ∷ [])) in
+            subst (HasAll v new) (sym listed) (all-both (HasOne v new) xs (t ∷ [])
+            (has-more v u old new n r updates xs (k.has before h)) (has-new v u old new n r updates t at, tt));
       }
+
+  pub parts-end : (v w : Store) (f : Tree → Option Tree) (parts : List ℕ) (first : IndexMap ℕ Term S) (i : ℕ) (u : Store) (made : IndexMap ℕ Term S) → length parts ≤ i
+      → Parts v w f parts first i u made → (before : List Tree) → HasAll v first before → HasAll v made (before ++ trees_of v parts)
+  parts-end v w f parts first i u made le k before h =
+      subst (λ ns. HasAll v made (before ++ trees_of v ns)) (take-whole parts i le) (k.has before h)
+
+-- ---- the elements so far
+
+-- the elements of those of the first `i` parts that are shared
+abbrev pub Listed-so-far : Store → List Tree → List ℕ → ℕ → Store → List Term → Type 0
+Listed-so-far v ps parts i u entries = HaveTrees u entries (entries_of ps (trees_of v (take i parts)))
 
 -- ---- how a part is written
 
@@ -193,21 +196,61 @@ module _ (w : Store) (sound : IsSound w) (n : ℕ) (keys : List ℕ) (here : IsS
   place-is : position_or_len (nat_eq n) keys ≡ position_or_len (tree_eq (held_tree w (term_of n))) (trees_of w keys)
   place-is = place-map (λ k. held_tree w (term_of k)) (nat_eq n) (tree_eq (held_tree w (term_of n))) keys (same-references w sound n keys here there)
 
-  pub numbered-some : (i : ℕ) (e : Tree) → list_any (nat_eq n) keys ≡ true → position (nat_eq n) keys ≡ Some i
-      → numbered (trees_of w keys) (held_tree w (term_of n)) e ≡ reference i
-  numbered-some i e has at =
-      let a : list_any (tree_eq (held_tree w (term_of n))) (trees_of w keys) ≡ true = sym any-is ∙ has in
-      let b : position_or_len (tree_eq (held_tree w (term_of n))) (trees_of w keys) ≡ i = sym place-is ∙ place-of (nat_eq n) keys i at in
-      rw (a, b) refl
+  -- how a part is written, by its number among the shared parts
+  pub written-is : (m u : Store) (e r : Term) → tree_at m e ≡ Some (entry (trees_of w keys) (held_tree w (term_of n)))
+      → tree_at u r ≡ cond (list_any (nat_eq n) keys) (Some (reference (position_or_len (nat_eq n) keys))) (tree_at m e)
+      → tree_at u r ≡ Some (written (trees_of w keys) (held_tree w (term_of n)))
+  written-is m u e r at is = is ∙ by (list_any (nat_eq n) keys) refl
+    where
+      ps : List Tree
+      ps = trees_of w keys
 
-  pub numbered-none : (e : Tree) → list_any (nat_eq n) keys ≡ false → numbered (trees_of w keys) (held_tree w (term_of n)) e ≡ e
-  numbered-none e has = let a : list_any (tree_eq (held_tree w (term_of n))) (trees_of w keys) ≡ false = sym any-is ∙ has in rw a refl
+      t : Tree
+      t = held_tree w (term_of n)
+
+      by : (b : Bool) → list_any (nat_eq n) keys ≡ b → cond b (Some (reference (position_or_len (nat_eq n) keys))) (tree_at m e) ≡ Some (written ps t)
+      by true k =
+          let there : list_any (tree_eq t) ps ≡ true = sym any-is ∙ k in
+          let place = place-is in
+          rw (there, place) refl
+      by false k =
+          let there : list_any (tree_eq t) ps ≡ false = sym any-is ∙ k in
+          rw there at
+
+-- the place of a number that was found
+pub place-found : (n i : ℕ) (keys : List ℕ) → list_any (nat_eq n) keys ≡ true → position (nat_eq n) keys ≡ Some i → (o : Option Tree)
+    → Some (reference i) ≡ cond (list_any (nat_eq n) keys) (Some (reference (position_or_len (nat_eq n) keys))) o
+place-found n i keys h e o = let is = place-of (nat_eq n) keys i e in rw (h, is) refl
 
 -- an element that was added, or none
-pub entry-added : (u : Store) (ps : List Tree) (t : Tree) (r : Term) (b : Bool) → tree_at u r ≡ Some (entry ps t)
+entry-added : (u : Store) (ps : List Tree) (t : Tree) (r : Term) (b : Bool) → tree_at u r ≡ Some (entry ps t)
     → HaveTrees u (cond b (r ∷ []) []) (map (entry ps) (cond b (t ∷ []) []))
 entry-added u ps t r true e = (e, tt)
 entry-added u ps t r false e = tt
+
+pub listed-next : (v : Store) → IsSound v → (keys parts : List ℕ) (i : ℕ) (m u : Store) (entries now : List Term) (e : Term) → i < length parts → AreThere v parts
+    → AreThere v keys → Listed-so-far v (trees_of v keys) parts i m entries → Grows m u
+    → tree_at u e ≡ Some (entry (trees_of v keys) (held_tree v (term_of (get_or parts i 0))))
+    → now ≡ entries ++ cond (list_any (nat_eq (get_or parts i 0)) keys) (e ∷ []) [] → Listed-so-far v (trees_of v keys) parts (i + 1) u now
+listed-next v sound keys parts i m u entries now e lt there shared h g at is =
+    let n = get_or parts i 0 in
+    let ps = trees_of v keys in
+    let t = held_tree v (term_of n) in
+    let p : Tree → Bool = λ x. list_any (tree_eq x) ps in
+    let added = cond (list_any (nat_eq n) keys) (e ∷ []) [] in
+    let old = entries_of ps (trees_of v (take i parts)) in
+    let listed : entries_of ps (trees_of v (take (i + 1) parts)) ≡ old ++ map (entry ps) (cond (p t) (t ∷ []) []) =
+    ap (entries_of ps) (taken-more v parts i lt) ∙ ap (map (entry ps)) (filter-last p (trees_of v (take i parts)) t)
+    ∙ map-both (entry ps) (filter p (trees_of v (take i parts))) (cond (p t) (t ∷ []) []) in
+    let any = any-is v sound n keys (there-at v parts i there lt) shared in
+    let have : HaveTrees u added (map (entry ps) (cond (p t) (t ∷ []) [])) =
+    subst (λ b. HaveTrees u added (map (entry ps) (cond b (t ∷ []) []))) any (entry-added u ps t e (list_any (nat_eq n) keys) at) in
+    subst (λ z. HaveTrees u z (entries_of ps (trees_of v (take (i + 1) parts)))) (sym is)
+    (subst (HaveTrees u (entries ++ added)) (sym listed) (have-both u entries added old (map (entry ps) (cond (p t) (t ∷ []) [])) (have-grown m u g entries old h) have))
+
+pub listed-end : (v : Store) (ps : List Tree) (parts : List ℕ) (i : ℕ) (u : Store) (entries : List Term) → length parts ≤ i → Listed-so-far v ps parts i u entries
+    → HaveTrees u entries (entries_of ps (trees_of v parts))
+listed-end v ps parts i u entries le h = subst (λ z. HaveTrees u entries (entries_of ps (trees_of v z))) (take-whole parts i le) h
 
 -- ---- all elements
 
@@ -228,39 +271,27 @@ shared-again p qs (x ∷ xs) h = by (p x) refl (shared-again p qs xs h.1)
             pick true k = absurd (let m : false ≡ true = sym e ∙ (among-filter p x qs k).0 in cc m)
             pick false k = k
 
--- ---- the element of one tree
+-- ---- what is made of one tree
 
-pub body-of-entry : (ps : List Tree) (t u : Tree) → IsBody (some_written ps) t u → IsEntryBody ps t u
-body-of-entry ps t u h = (body-bare (some_written ps) t u h, λ us k. body-entry ps t u us h k)
+each-written : (ps : List Tree) (ts : Trees) → each (some_written ps) ts ≡ Some (written_all ps ts)
+each-written ps none = refl
+each-written ps (more t ts) = let k = each-written ps ts in rw k refl
 
-pub hole-of-entry : (ps : List Tree) (w : Store) (t inner : Term) → HasHole w t → tree_at w inner ≡ part_at inner_of w t
-    → IsEntryBody ps (held_tree w t) (Hole (list_of (more (written ps (held_tree w inner)) none)) none)
-hole-of-entry ps w t inner h at =
-    let is = held-is w t (Hole h.inside h.anns) h.here in
-    let there : tree_at w inner ≡ Some h.inside = at ∙ ap (option_and_then inner_of) h.here in
-    let same = held-is w inner h.inside there in
-    subst (λ x. IsEntryBody ps (held_tree w t) (Hole (list_of (more (written ps x) none)) none)) (sym same)
-    (subst (λ x. IsEntryBody ps x (Hole (list_of (more (written ps h.inside) none)) none)) (sym is)
-    (refl, λ us k. ap (Hole (list_of (more (written ps h.inside) none))) (each-written ps h.anns us k)))
+pub entry-remade : (ps : List Tree) (t : Tree) → remade Listed (some_written ps) t ≡ Some (entry ps t)
+entry-remade ps (Int z anns) = let a = each-written ps anns in rw a refl
+entry-remade ps (Appl name quoted args anns) = let a = each-written ps args in let b = each-written ps anns in rw (a, b) refl
+entry-remade ps (Items items anns) = let a = each-written ps items in let b = each-written ps anns in rw (a, b) refl
+entry-remade ps (Hole inner anns) = let a = each-written ps anns in rw a refl
 
-pub entry-made : (ps : List Tree) (w v x : Store) (t : Tree) (body r : Term) → (u : Tree) × (tree_at v body ≡ Some u) × IsEntryBody ps t u
-    → ((u : Tree) → tree_at v body ≡ Some u → annotations u ≡ none
-    → (us : Trees) × IsEach (some_written ps) (to_list (annotations t)) us × (tree_at x r ≡ Some (annotated u us)))
-    → tree_at x r ≡ Some (entry ps t)
-entry-made ps w v x t body r (u, at, (bare, is)) h =
-    let k = h u at bare in
-    k.2 ∙ ap (λ z. let o : Option Tree = Some z in o) (is k.0 k.1)
+each-same : (ts : Trees) → each Some ts ≡ Some ts
+each-same none = refl
+each-same (more t ts) = let k = each-same ts in rw k refl
 
-module _ {S : Type 0} where
-  pub body-has : (w : Store) (made : IndexMap ℕ Term S) (t : Tree) → HasAll w made (direct t) → HasAll w made (body_items t)
-  body-has w made t h = all-left (HasOne w made) (body_items t) (to_list (annotations t)) (subst (HasAll w made) (direct-both t) h)
-
-  pub notes-have : (w v : Store) → Grows w v → (made : IndexMap ℕ Term S) (r : Term) → IsSome (tree_at w r) → HasAll w made (direct (held_tree w r))
-      → HasAll v made (to_list (annotations (held_tree v r)))
-  notes-have w v g made r held h =
-      let t = held_tree w r in
-      let k = all-right (HasOne w made) (body_items t) (to_list (annotations t)) (subst (HasAll w made) (direct-both t) h) in
-      subst (λ z. HasAll v made (to_list (annotations z))) (sym (held-grown w v g r held)) (all-grown w v g made (to_list (annotations t)) k)
+pub copy-remade : (t : Tree) → remade Bare Some t ≡ Some t
+copy-remade (Int z anns) = let a = each-same anns in rw a refl
+copy-remade (Appl name quoted args anns) = let a = each-same args in let b = each-same anns in rw (a, b) refl
+copy-remade (Items items anns) = let a = each-same items in let b = each-same anns in rw (a, b) refl
+copy-remade (Hole inner anns) = let a = each-same anns in rw a refl
 
 -- ---- the table of a tree
 
@@ -295,126 +326,25 @@ elements-have v elements entries last es h k is =
 pub tree-among : (t : Tree) → IsAmong t (different (subterms t))
 tree-among t = among-still t (subterms t) (subst (IsAmong t) (sym (subterms-inside t)) (among-right t (inside t) (t ∷ []) (among-first t [])))
 
--- ---- one turn of the loop over the parts
+-- the different subterms of a term, in a slice
+module _ (v : Store) (t : Term) (held : IsSome (tree_at v t)) (keys slice : List ℕ) (e : trees_of v keys ≡ different (subterms (held_tree v t))) (is : slice ≡ keys) where
+  pub slice-trees : trees_of v slice ≡ different (subterms (held_tree v t))
+  slice-trees = ap (trees_of v) is ∙ e
 
-pub take-whole : (xs : List ℕ) (j : ℕ) → length xs ≤ j → take j xs ≡ xs
-take-whole [] zero le = refl
-take-whole [] (suc j) le = refl
-take-whole (x ∷ xs) zero le = absurd (omega arith)
-take-whole (x ∷ xs) (suc j) le = ap (λ z. x ∷ z) (take-whole xs j (omega arith))
+  pub slice-begun : Begun (trees_of v slice)
+  slice-begun = let u = held_tree v t in subst Begun (sym slice-trees) (begun-different (subterms u) (begun-subterms u))
 
-module _ {S : Type 0} where
-  pub entries-turn : (w : Store) → IsSound w → (keys parts : List ℕ) (i : ℕ) (v m u : Store) (old new : IndexMap ℕ Term S) (entries now : List Term)
-      (e r : Term) → i < length parts → AreThere w parts → AreThere w keys → Entries w (trees_of w keys) parts i v old entries → Grows v m → Grows m u
-      → tree_at m e ≡ Some (entry (trees_of w keys) (held_tree v (term_of (get_or parts i 0))))
-      → ((x : Tree) → tree_at m e ≡ Some x → tree_at u r ≡ Some (numbered (trees_of m keys) (held_tree m (term_of (get_or parts i 0))) x))
-      → now ≡ entries ++ cond (list_any (nat_eq (get_or parts i 0)) keys) (e ∷ []) []
-      → ((q : ℕ) → get nat_eq new q ≡ cond (nat_eq (get_or parts i 0) q) (Some r) (get nat_eq old q))
-      → Entries w (trees_of w keys) parts (i + 1) u new now
-  entries-turn w sound keys parts i v m u old new entries now e r lt there shared k g h made numbers is updates =
-      let n = get_or parts i 0 in
-      let t = held_tree w (term_of n) in
-      let ps = trees_of w keys in
-      let held = there-at w parts i there lt in
-      let to-m = Grows-trans k.grows g in
-      let at : tree_at m e ≡ Some (entry ps t) = made ∙ ap (λ z. let o : Option Tree = Some (entry ps z) in o) (held-grown w v k.grows (term_of n) held) in
-      let here : tree_at u r ≡ Some (written ps t) = numbers (entry ps t) at
-      ∙ ap (λ z. let o : Option Tree = Some (numbered z (held_tree m (term_of n)) (entry ps t)) in o) (trees-grown w m to-m keys shared)
-      ∙ ap (λ z. let o : Option Tree = Some (numbered ps z (entry ps t)) in o) (held-grown w m to-m (term_of n) held) in
-      let any = any-is w sound n keys held shared in
-      let have : HaveTrees u (cond (list_any (nat_eq n) keys) (e ∷ []) []) (map (entry ps) (cond (list_any (tree_eq t) ps) (t ∷ []) [])) =
-      subst (λ b. HaveTrees u (cond (list_any (nat_eq n) keys) (e ∷ []) []) (map (entry ps) (cond b (t ∷ []) []))) any
-      (entry-added u ps t e (list_any (nat_eq n) keys) (h.trees e (entry ps t) at)) in
-      subst (Entries w ps parts (i + 1) u new) (sym is)
-      (entries-next w ps parts i v u old new entries (cond (list_any (nat_eq n) keys) (e ∷ []) []) r lt there k (Grows-trans g h) updates here have)
+  pub root-got : {S : Type 0} → IsSound v → (made : IndexMap ℕ Term S) → HasAll v made (trees_of v slice) → IsSome (get nat_eq made t.0)
+  root-got sound made has =
+      let u = held_tree v t in
+      one-got v sound made t u (held-at v t held)
+      (all-at (HasOne v made) (different (subterms u)) u (subst (HasAll v made) slice-trees has) (tree-among u))
 
-  -- what a part needs
-  pub part-has : (w : Store) (ps : List Tree) (parts : List ℕ) (i : ℕ) (v : Store) (made : IndexMap ℕ Term S) (entries : List Term) → i < length parts
-      → AreThere w parts → Begun (trees_of w parts) → Entries w ps parts i v made entries
-      → IsSome (tree_at v (term_of (get_or parts i 0))) × HasAll v made (direct (held_tree v (term_of (get_or parts i 0))))
-  part-has w ps parts i v made entries lt there order k =
-      let n = get_or parts i 0 in
-      let held = there-at w parts i there lt in (
-        some-grown w v k.grows (term_of n) held,
-        subst (λ z. HasAll v made (direct z)) (sym (held-grown w v k.grows (term_of n) held))
-            (has-among v made (trees_of w (take i parts)) (direct (held_tree w (term_of n))) k.has (direct-taken w parts i lt order)),
-      )
-
-  pub entries-end : (w : Store) (ps : List Tree) (parts : List ℕ) (i : ℕ) (v : Store) (made : IndexMap ℕ Term S) (entries : List Term) → length parts ≤ i
-      → Entries w ps parts i v made entries → HaveTrees v entries (entries_of ps (trees_of w parts)) × HasAll v made (trees_of w parts)
-  entries-end w ps parts i v made entries le k =
-      let e = take-whole parts i le in (
-        subst (λ z. HaveTrees v entries (entries_of ps (trees_of w z))) e k.listed,
-        subst (λ z. HasAll v made (trees_of w z)) e k.has,
-      )
+pub root-made : {S : Type 0} (v w : Store) (f : Tree → Option Tree) (made : IndexMap ℕ Term S) (t : Term) → Made v w f made → IsSome (tree_at v t) → (r : Term)
+    → get nat_eq made t.0 ≡ Some r → f (held_tree v t) ≡ tree_at w r
+root-made v w f made t m held r got = (m t.0 r got).1 (held_tree v t) (held-at v t held)
 
 -- ---- results
-
-pub number-answers : (w x : Store) (element : Term) (ps : List Tree) (t : Tree) (i : ℕ) (r : Result Term TableFault)
-    → IfOk r (λ r. tree_at x r ≡ Some (reference i)) → ((e : Tree) → numbered ps t e ≡ reference i)
-    → IfOk r (λ r. (e : Tree) → tree_at w element ≡ Some e → tree_at x r ≡ Some (numbered ps t e))
-number-answers w x element ps t i (Err e) h k = tt
-number-answers w x element ps t i (Ok r) h k = λ e at. h ∙ ap (λ z. let o : Option Tree = Some z in o) (sym (k e))
-
-pub entry-answers : {S : Type 0} (w v x : Store) → Grows w v → (made : IndexMap ℕ Term S) (t body : Term) → IsSome (tree_at w t)
-    → ((ps : List Tree) → Made w (some_written ps) made → (u : Tree) × (tree_at v body ≡ Some u) × IsEntryBody ps (held_tree w t) u)
-    → (r : Result Term TableFault)
-    → IfOk r (λ r. (f : Tree → Option Tree) (u : Tree) → Made v f made → tree_at v body ≡ Some u → annotations u ≡ none
-    → (us : Trees) × IsEach f (to_list (annotations (held_tree v t))) us × (tree_at x r ≡ Some (annotated u us)))
-    → IfOk r (λ r. (ps : List Tree) → Made w (some_written ps) made → tree_at x r ≡ Some (entry ps (held_tree w t)))
-entry-answers w v x g made t body held b (Err e) h = tt
-entry-answers w v x g made t body held b (Ok r) h = λ ps m.
-    entry-made ps w v x (held_tree w t) body r (b ps m)
-    (λ u at bare. subst (λ z. (us : Trees) × IsEach (some_written ps) (to_list (annotations z)) us × (tree_at x r ≡ Some (annotated u us)))
-    (held-grown w v g t held) (h (some_written ps) u (made-grown w v g (some_written ps) made m) at bare))
-
--- ---- the element of a placeholder
-
-pub hole-held : (w : Store) (t : Term) → IsSome (tree_at w t) → IsHole (held_tree w t) → HasHole w t
-hole-held w t h k = by (held_tree w t) (held-at w t h) k
-  where
-    by : (u : Tree) → tree_at w t ≡ Some u → IsHole u → HasHole w t
-    by (Hole inner anns) e k = record { inside = inner; anns = anns; here = e }
-    by (Int z anns) e k = absurd k
-    by (Appl name quoted args anns) e k = absurd k
-    by (Items items anns) e k = absurd k
-
-pub hole-grown : (w v : Store) → Grows w v → (t : Term) → HasHole w t → HasHole v t
-hole-grown w v g t h = record { inside = h.inside; anns = h.anns; here = g.trees t (Hole h.inside h.anns) h.here }
-
-pub hole-inner : (v : Store) (t : Term) → HasHole v t → IsSome (part_at inner_of v t)
-hole-inner v t h = let here = h.here in rw here refl
-
-pub hole-has : {S : Type 0} (w v : Store) → Grows w v → (made : IndexMap ℕ Term S) (t inner : Term) → HasHole w t
-    → tree_at v inner ≡ part_at inner_of v t → HasAll w made (body_items (held_tree w t)) → HasOne v made (held_tree v inner)
-hole-has w v g made t inner h at has =
-    let is = held-is w t (Hole h.inside h.anns) h.here in
-    let there : tree_at v inner ≡ Some h.inside = at ∙ ap (option_and_then inner_of) (g.trees t (Hole h.inside h.anns) h.here) in
-    let one = (subst (λ z. HasAll w made (body_items z)) is has).0 in
-    subst (HasOne v made) (sym (held-is v inner h.inside there)) (one-grown w v g made h.inside one)
-
-pub body-answers : (v : Store) (ps : List Tree) (t : Tree) (o : Option Term) (r : Term) → o ≡ Some r
-    → IsBodyOrHole (some_written ps) v t o → (u : Tree) × (tree_at v r ≡ Some u) × IsEntryBody ps t u
-body-answers v ps t o r e h =
-    let k = subst (IsBodyOrHole (some_written ps) v t) e h in
-    (k.0, k.1, body-of-entry ps t k.0 k.2)
-
-pub bracketed-answers : {S : Type 0} (w v x : Store) → Grows w v → (made : IndexMap ℕ Term S) (t inner item : Term) → HasHole w t
-    → tree_at v inner ≡ part_at inner_of v t
-    → ((f : Tree → Option Tree) → Made v f made → f (held_tree v inner) ≡ tree_at v item)
-    → (r : Result Term TableFault)
-    → IfOk r (λ r. (u : Tree) → tree_at v item ≡ Some u → tree_at x r ≡ Some (Hole (list_of (more u none)) none))
-    → IfOk r (λ r. (ps : List Tree) → Made w (some_written ps) made → (u : Tree) × (tree_at x r ≡ Some u) × IsEntryBody ps (held_tree w t) u)
-bracketed-answers w v x g made t inner item h at m (Err e) k = tt
-bracketed-answers w v x g made t inner item h at m (Ok r) k = λ ps q.
-    let u = written ps (held_tree v inner) in
-    let here = sym (m (some_written ps) (made-grown w v g (some_written ps) made q)) in
-    let hole = hole-of-entry ps v t inner (hole-grown w v g t h) at in
-    let held = some-tree w t (Hole h.inside h.anns) h.here in (
-      Hole (list_of (more u none)) none,
-      k u here,
-      subst (λ z. IsEntryBody ps z (Hole (list_of (more u none)) none)) (held-grown w v g t held) hole,
-    )
 
 pub table-answers : (v x : Store) (elements : List Term) (last : Term) (t : Tree) (qs ps : List Tree) (entries : List Term)
     → qs ≡ different (subterms t) → ps ≡ filter (is_shared qs) qs → HaveTrees v entries (entries_of ps qs) → tree_at v last ≡ Some (written ps t)

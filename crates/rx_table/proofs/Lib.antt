@@ -7,3 +7,4 @@ pub mod EntryLemmas
 pub mod SharedLemmas
 pub mod OpenedLemmas
 pub mod OpeningLemmas
+pub mod CountedPartLemmas

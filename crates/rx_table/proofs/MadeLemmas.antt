@@ -1,24 +1,27 @@
--- Terms that were made of others.
-use Rattle.std.proofs.Common.{◌≡◌, ℕ, ◌==◌, ℤ, true, List, [], ◌∷◌, ◌++◌}
-use Rattle.std.proofs.Common.{Option, Some, None, IsSome, refl, sym, ap, subst, ◌∙◌, append_assoc, append-nil, length, arith, eq-eqb}
-use Rattle.std.specs.Prelude.{nat_eq}
-use Rattle.std.specs.Borrow.{Bor}
-use Rattle.std.specs.Option.{option_copied}
-use Rattle.std.specs.Option.{option_and_then}
+-- Terms of one store that were made of the terms of another.
+use Rattle.std.proofs.Common.{◌≡◌, ℕ, ◌+◌, ◌<◌, ◌≤◌, ◌==◌, ℤ, Bool, true, false, cond, List, [], ◌∷◌, ◌++◌}
+use Rattle.std.proofs.Common.{Option, Some, None, IsSome, refl, sym, ap, subst, ◌∙◌, append_assoc, append-nil, length, arith, eq-eqb, Result, Ok, Err, IfOk}
+use Rattle.std.specs.Prelude.{nat_eq, nat_lt, ◌&&◌}
+use Rattle.std.specs.List.{list_all}
+use Rattle.std.specs.Option.{option_and_then, option_map}
+use Rattle.std.proofs.lemmas.Bool.Decides.{Decides-eqb}
 use Rattle.indexmap.specs.IndexMap.{IndexMap, get}
+use Rattle.rx_term.specs.Name.{IsAllowed, Signature, is_allowed}
 use Rattle.rx_term.specs.Tree.{Tree, Trees, Int, Appl, Items, Hole, none, more, annotated, annotations, count_of, items_of, list_of, to_list}
-use Rattle.rx_term.specs.Store.{Store, tree_at, signature_of, part_at, args_of, longer, applied, noted}
+use Rattle.rx_term.specs.Store.{Store, tree_at, signature_of, name_at, quoted_at, part_at, args_of, inner_of, longer, applied, noted}
 use Rattle.rx_term.specs.Steps.{Grows, IsSound, Makes}
 use Rattle.rx_term.specs.Kinds.{HasInt, HasNil, HasCons, HasAppl, HasHole}
 use Rattle.rx_term.specs.Walks.{HaveTrees, held_tree}
 use Rattle.rx_term.specs.declared.Term.{Term}
 use Rattle.rx_term.specs.declared.Symbol.{Symbol}
-use Rattle.rx_term.proofs.StoreLemmas.{Grows-Makes, Grows-trans}
-use Rattle.rx_table.specs.Table.{written, written_all, entry}
-use Rattle.rx_table.specs.Inner.Walk.{term_of, body_items}
-use Rattle.rx_table.specs.Inner.Made.{HasAll, HasOne, IsBody, IsBodyOrHole, IsEach, IsHole, Made, some_written}
+use Rattle.rx_term.proofs.StoreLemmas.{Grows-Makes, Grows-trans, some-value}
+use Rattle.rx_table.specs.Opened.{both}
+use Rattle.rx_table.specs.Table.{direct}
+use Rattle.rx_table.specs.Inner.Walk.{AreThere, Begun, IsList, Pushes, body_items, term_of, trees_of}
+use Rattle.rx_table.specs.Inner.Made.{AreMade, Gives, HasAll, HasOne, IsBare, IsListOf, Made, content_of, each, remade}
+use Rattle.rx_table.specs.declared.made.Content.{Content}
 use Rattle.rx_table.proofs.SubtermLemmas.{all-left, all-right}
-use Rattle.rx_table.proofs.WalkLemmas.{held-at, held-is, some-tree, have-last, have-none, items_at}
+use Rattle.rx_table.proofs.WalkLemmas.{HaveLast, direct-both, held-at, held-is, some-tree, have-last, have-none, items_at}
 
 -- ---- a store that has grown
 
@@ -32,27 +35,31 @@ pub tree-grown : (w v : Store) → Grows w v → (r : Term) → IsSome (tree_at 
 tree-grown w v g r h = g.trees r (held_tree w r) (held-at w r h) ∙ sym (held-at w r h)
 
 module _ {S : Type 0} where
-  pub made-grown : (w v : Store) → Grows w v → (f : Tree → Option Tree) (made : IndexMap ℕ Term S) → Made w f made → Made v f made
-  made-grown w v g f made m n r e =
-      let k = m n r e in (
-        some-grown w v g (term_of n) k.0,
-        some-grown w v g r k.1,
-        ap f (held-grown w v g (term_of n) k.0) ∙ k.2 ∙ sym (tree-grown w v g r k.1),
-      )
+  pub are-made : (v w : Store) (f : Tree → Option Tree) (made : IndexMap ℕ Term S) → Made v w f made → AreMade w made
+  are-made v w f made m n r got = (m n r got).0
 
-  pub one-grown : (w v : Store) → Grows w v → (made : IndexMap ℕ Term S) (t : Tree) → HasOne w made t → HasOne v made t
-  one-grown w v g made t (n, (r, at, got, held)) = (n, (r, g.trees (term_of n) t at, got, some-grown w v g r held))
+  pub are-grown : (w u : Store) → Grows w u → (made : IndexMap ℕ Term S) → AreMade w made → AreMade u made
+  are-grown w u g made m n r got = some-grown w u g r (m n r got)
 
-  pub all-grown : (w v : Store) → Grows w v → (made : IndexMap ℕ Term S) (ts : List Tree) → HasAll w made ts → HasAll v made ts
-  all-grown w v g made [] h = tt
-  all-grown w v g made (t ∷ ts) h = (one-grown w v g made t h.0, all-grown w v g made ts h.1)
+  pub made-grown : (v w u : Store) → Grows w u → (f : Tree → Option Tree) (made : IndexMap ℕ Term S) → Made v w f made → Made v u f made
+  made-grown v w u g f made m n r got =
+      let k = m n r got in
+      (some-grown w u g r k.0, λ t at. k.1 t at ∙ sym (tree-grown w u g r k.0))
 
   -- what is looked up
-  pub one-made : (w : Store) → IsSound w → (made : IndexMap ℕ Term S) (t : Term) → IsSome (tree_at w t) → HasOne w made (held_tree w t)
-      → (r : Term) × ((get nat_eq made t.0 ≡ Some r) × IsSome (tree_at w r))
-  one-made w sound made t h (n, (r, at, got, held)) =
-      let same : term_of n ≡ t = sound.one_to_one (term_of n) t (held_tree w t) at (held-at w t h) in
-      (r, (subst (λ (x : Term). get nat_eq made x.0 ≡ Some r) same got, held))
+  pub one-got : (v : Store) → IsSound v → (made : IndexMap ℕ Term S) (t : Term) (u : Tree) → tree_at v t ≡ Some u → HasOne v made u
+      → IsSome (get nat_eq made t.0)
+  one-got v sound made t u at (n, here, got) =
+      let same : term_of n ≡ t = sound.one_to_one (term_of n) t u here at in
+      subst (λ (x : Term). IsSome (get nat_eq made x.0)) same got
+
+  -- a tree that a term was made of
+  pub one-made : (v w : Store) (f : Tree → Option Tree) (made : IndexMap ℕ Term S) (t : Tree) → Made v w f made → HasOne v made t → IsSome (f t)
+  one-made v w f made t m (n, at, got) = by (get nat_eq made n) refl
+    where
+      by : (o : Option Term) → get nat_eq made n ≡ o → IsSome (f t)
+      by None e = absurd (let k = rw e at got in cc k)
+      by (Some r) e = let k = m n r e in subst IsSome (sym (k.1 t at)) k.0
 
 -- ---- lists of references
 
@@ -66,7 +73,7 @@ have-same w [] (t ∷ ts) us h k = absurd h
 have-same w (r ∷ rs) [] us h k = absurd h
 have-same w (r ∷ rs) (t ∷ ts) [] h k = absurd k
 
-longer-is : (w : Store) (r list : Term) (u : Tree) (us : Trees) → tree_at w r ≡ Some u → tree_at w list ≡ Some (list_of us)
+pub longer-is : (w : Store) (r list : Term) (u : Tree) (us : Trees) → tree_at w r ≡ Some u → tree_at w list ≡ Some (list_of us)
     → longer (tree_at w r) (tree_at w list) ≡ Some (list_of (more u us))
 longer-is w r list u us e f = rw (e, f) refl
 
@@ -118,7 +125,7 @@ module _ (w : Store) (all left less : List Term) (v : Store) (list item : Term) 
         here = n.made ∙ longer-is v item list l.last m.us making-item.1 m.here;
       }
 
-to-same : (ts us : Trees) → to_list ts ≡ to_list us → ts ≡ us
+pub to-same : (ts us : Trees) → to_list ts ≡ to_list us → ts ≡ us
 to-same none none e = refl
 to-same none (more u us) e = absurd (cc e)
 to-same (more t ts) none e = absurd (cc e)
@@ -133,156 +140,214 @@ making-ends w all left v list m e us h =
 
 -- ---- a list of what was made, under way
 
-module _ {S : Type 0} where
-  pub record Listing (w : Store) (made : IndexMap ℕ Term S) (all left : List Term) (v : Store) (list : Term) : Type 0 where
-    pub whole : List Tree
-    pub front : List Tree
-    pub back : List Tree
-    pub us : Trees
-    pub all-have : HaveTrees w all whole
-    pub is : whole ≡ front ++ back
-    pub have : HaveTrees w left front
-    pub has : HasAll w made front
-    pub grows : Grows w v
-    pub here : tree_at v list ≡ Some (list_of us)
-    pub counted : count_of us ≡ length back
-    pub each : (f : Tree → Option Tree) → Made w f made → IsEach f back us
+each-more : (f : Tree → Option Tree) (t u : Tree) (ts us : Trees) → f t ≡ Some u → each f ts ≡ Some us → each f (more t ts) ≡ Some (more u us)
+each-more f t u ts us e k = rw (e, k) refl
 
-  pub listing-begins : (w v : Store) (made : IndexMap ℕ Term S) (all : List Term) (list : Term) (ts : List Tree) → HaveTrees w all ts → HasAll w made ts
-      → Makes w v (Some (Items none none)) list → Listing w made all all v list
-  listing-begins w v made all list ts h k m = record {
-    whole = ts;
-    front = ts;
-    back = [];
+module _ {S : Type 0} where
+  -- the items `whole` of a list of `v`; the terms of the last of them are in `list`
+  pub record Listing (v w : Store) (made : IndexMap ℕ Term S) (whole : Trees) (left : List Term) (u : Store) (list : Term) : Type 0 where
+    pub front : List Tree
+    pub back : Trees
+    pub us : Trees
+    pub is : to_list whole ≡ front ++ to_list back
+    pub have : HaveTrees v left front
+    pub has : HasAll v made front
+    pub grows : Grows w u
+    pub here : tree_at u list ≡ Some (list_of us)
+    pub counted : count_of us ≡ count_of back
+    pub each-is : (f : Tree → Option Tree) → Made v w f made → each f back ≡ Some us
+
+  pub listing-begins : (v w u : Store) (made : IndexMap ℕ Term S) (whole : Trees) (old left : List Term) (list : Term) → old ≡ []
+      → Pushes v old left (to_list whole) → HasAll v made (to_list whole) → Makes w u (Some (Items none none)) list
+      → Listing v w made whole left u list
+  listing-begins v w u made whole old left list e (added, is, have) has m = record {
+    front = to_list whole;
+    back = none;
     us = none;
-    all-have = h;
-    is = sym (append-nil ts);
-    have = h;
-    has = k;
+    is = sym (append-nil (to_list whole));
+    have = subst (λ rs. HaveTrees v rs (to_list whole)) (sym (is ∙ ap (λ z. z ++ added) e)) have;
+    has = has;
     grows = Grows-Makes m;
     here = m.made;
     counted = refl;
-    each = λ f q. tt;
+    each-is = λ f k. refl;
   }
 
-  module _ (w : Store) (made : IndexMap ℕ Term S) (all left less : List Term) (v : Store) (list item : Term) (m : Listing w made all left v list)
-      (e : left ≡ less ++ item ∷ []) where
-    last-of : (front : List Tree) × ((last : Tree) × (m.front ≡ front ++ last ∷ []) × HaveTrees w less front × (tree_at w item ≡ Some last))
-    last-of = let l = have-last w less item m.front (subst (λ z. HaveTrees w z m.front) e m.have) in (l.front, (l.last, l.is, l.have, l.here))
+  module _ (v w : Store) (made : IndexMap ℕ Term S) (whole : Trees) (left less : List Term) (u : Store) (list item : Term)
+      (m : Listing v w made whole left u list) (e : left ≡ less ++ item ∷ []) where
+    last-of : HaveLast v less item m.front
+    last-of = have-last v less item m.front (subst (λ z. HaveTrees v z m.front) e m.have)
 
-    item-is : held_tree v item ≡ last-of.1.0
-    item-is = held-is v item last-of.1.0 (m.grows.trees item last-of.1.0 last-of.1.3)
+    pub listing-has : IsSound v → IsSome (get nat_eq made item.0)
+    listing-has sound =
+        let one = (all-right (HasOne v made) last-of.front (last-of.last ∷ []) (subst (HasAll v made) last-of.is m.has)).0 in
+        one-got v sound made item last-of.last last-of.here one
 
-    pub listing-held : IsSome (tree_at v item)
-    listing-held = some-tree v item last-of.1.0 (m.grows.trees item last-of.1.0 last-of.1.3)
+    pub listing-longer : AreMade w made → (r : Term) → get nat_eq made item.0 ≡ Some r → IsSome (longer (tree_at u r) (tree_at u list))
+    listing-longer held r got =
+        let there = some-grown w u m.grows r (held item.0 r got) in
+        let k = longer-is u r list (held_tree u r) m.us (held-at u r there) m.here in rw k refl
 
-    pub listing-has : HasOne v made (held_tree v item)
-    listing-has =
-        let split = subst (HasAll w made) last-of.1.1 m.has in
-        let one = (all-right (HasOne w made) last-of.0 (last-of.1.0 ∷ []) split).0 in
-        subst (HasOne v made) (sym item-is) (one-grown w v m.grows made last-of.1.0 one)
+    pub listing-next : AreMade w made → (r : Term) → get nat_eq made item.0 ≡ Some r → (x : Store) (new : Term)
+        → Makes u x (longer (tree_at u r) (tree_at u list)) new → Listing v w made whole less x new
+    listing-next held r got x new n =
+        let l = last-of in
+        let there = held item.0 r got in
+        let at : tree_at u r ≡ Some (held_tree w r) = m.grows.trees r (held_tree w r) (held-at w r there) in
+        record {
+          front = l.front;
+          back = more l.last m.back;
+          us = more (held_tree w r) m.us;
+          is = m.is ∙ ap (λ z. z ++ to_list m.back) l.is ∙ append_assoc l.front (l.last ∷ []) (to_list m.back);
+          have = l.have;
+          has = all-left (HasOne v made) l.front (l.last ∷ []) (subst (HasAll v made) l.is m.has);
+          grows = Grows-trans m.grows (Grows-Makes n);
+          here = n.made ∙ longer-is u r list (held_tree w r) m.us at m.here;
+          counted = (let k = m.counted in omega (arith, k));
+          each-is = λ f k. each-more f l.last (held_tree w r) m.back m.us ((k item.0 r got).1 l.last l.here ∙ held-at w r there) (m.each-is f k);
+        }
 
-    pub listing-longer : (r : Term) → IsSome (tree_at v r) → IsSome (longer (tree_at v r) (tree_at v list))
-    listing-longer r h = let k = longer-is v r list (held_tree v r) m.us (held-at v r h) m.here in rw k refl
+  module _ (v w : Store) (made : IndexMap ℕ Term S) (whole : Trees) (left : List Term) (u : Store) (list : Term)
+      (m : Listing v w made whole left u list) (e : left ≡ []) where
+    all-back : m.back ≡ whole
+    all-back =
+        let none-left : m.front ≡ [] = have-none v m.front (subst (λ z. HaveTrees v z m.front) e m.have) in
+        to-same m.back whole (sym (m.is ∙ ap (λ z. z ++ to_list m.back) none-left))
 
-    pub listing-next : (u : Store) (r new : Term) → IsSome (tree_at v r)
-        → ((f : Tree → Option Tree) → Made v f made → f (held_tree v item) ≡ tree_at v r) → Makes v u (longer (tree_at v r) (tree_at v list)) new
-        → Listing w made all less u new
-    listing-next u r new h q n = record {
-      whole = m.whole;
-      front = last-of.0;
-      back = last-of.1.0 ∷ m.back;
-      us = more (held_tree v r) m.us;
-      all-have = m.all-have;
-      is = m.is ∙ ap (λ z. z ++ m.back) last-of.1.1 ∙ append_assoc last-of.0 (last-of.1.0 ∷ []) m.back;
-      have = last-of.1.2;
-      has = all-left (HasOne w made) last-of.0 (last-of.1.0 ∷ []) (subst (HasAll w made) last-of.1.1 m.has);
-      grows = Grows-trans m.grows (Grows-Makes n);
-      here = n.made ∙ longer-is v r list (held_tree v r) m.us (held-at v r h) m.here;
-      counted = (let k = m.counted in omega (arith, k));
-      each = λ f k. (ap f (sym item-is) ∙ q f (made-grown w v m.grows f made k) ∙ held-at v r h, m.each f k);
-    }
+    pub listing-ends : Gives v w made u (λ f. option_map list_of (each f whole)) list
+    listing-ends = (
+      some-tree u list (list_of m.us) m.here,
+      λ f k. ap (λ z. option_map list_of (each f z)) (sym all-back) ∙ ap (option_map list_of) (m.each-is f k) ∙ sym m.here,
+    )
 
-  pub listing-ends : (w : Store) (made : IndexMap ℕ Term S) (all left : List Term) (v : Store) (list : Term) → Listing w made all left v list → left ≡ []
-      → (f : Tree → Option Tree) (ts : List Tree) → Made w f made → HaveTrees w all ts
-      → (us : Trees) × IsEach f ts us × (tree_at v list ≡ Some (list_of us))
-  listing-ends w made all left v list m e f ts q h =
-      let none-left : m.front ≡ [] = have-none w m.front (subst (λ z. HaveTrees w z m.front) e m.have) in
-      let same : m.back ≡ ts = sym (m.is ∙ ap (λ z. z ++ m.back) none-left) ∙ have-same w all m.whole ts m.all-have h in
-      (m.us, subst (λ z. IsEach f z m.us) same (m.each f q), m.here)
-
-  pub listing-counts : (w : Store) (made : IndexMap ℕ Term S) (all left : List Term) (v : Store) (list : Term) → Listing w made all left v list → left ≡ []
-      → (ts : List Tree) → HaveTrees w all ts → (us : Trees) × (count_of us ≡ length ts) × (tree_at v list ≡ Some (list_of us))
-  listing-counts w made all left v list m e ts h =
-      let none-left : m.front ≡ [] = have-none w m.front (subst (λ z. HaveTrees w z m.front) e m.have) in
-      let same : m.back ≡ ts = sym (m.is ∙ ap (λ z. z ++ m.back) none-left) ∙ have-same w all m.whole ts m.all-have h in
-      (m.us, m.counted ∙ ap length same, m.here)
+    pub listing-counts : IsListOf u (count_of whole) list
+    listing-counts = (m.us, m.counted ∙ ap count_of all-back, m.here)
 
 -- ---- trees without annotations
 
-pub body-int : (w v : Store) (t r : Term) (z : ℤ) (f : Tree → Option Tree) → HasInt w t z → Makes w v (Some (Int z none)) r
-    → IsBodyOrHole f v (held_tree w t) (Some r)
-body-int w v t r z f h m = (Int z none, m.made, subst (λ x. IsBody f x (Int z none)) (sym (held-is w t (Int z h.anns) h.here)) refl)
+pub bare-list : (u : Store) (n : ℕ) (r : Term) → IsListOf u n r → IsBare u r
+bare-list u n r (us, e, at) = (list_of us, at, refl)
 
-pub body-nil : (w v : Store) (t r : Term) (f : Tree → Option Tree) → HasNil w t → Makes w v (Some (Items none none)) r
-    → IsBodyOrHole f v (held_tree w t) (Some r)
-body-nil w v t r f h m = (list_of none, m.made, subst (λ x. IsBody f x (list_of none)) (sym (held-is w t (Items none h.anns) h.here)) (none, tt, refl))
+both-list : (o : Option Trees) → both Items o (Some none) ≡ option_map list_of o
+both-list None = refl
+both-list (Some us) = refl
 
-pub body-cons : (w v : Store) (t r : Term) (f : Tree → Option Tree) → HasCons w t
-    → (us : Trees) × IsEach f (items_at w t) us × (tree_at v r ≡ Some (list_of us)) → IsBodyOrHole f v (held_tree w t) (Some r)
-body-cons w v t r f h (us, each, here) =
-    let is = held-is w t (Items (more h.first h.rest) h.anns) h.here in
-    let each' = subst (λ x. IsEach f (to_list (items_of x)) us) is each in
-    (list_of us, here, subst (λ x. IsBody f x (list_of us)) (sym is) (us, each', refl))
+both-hole : (content : Content) (o : Option Tree) → both (λ t. Hole (content_of content t)) o (Some none) ≡ option_map (λ t. Hole (content_of content t) none) o
+both-hole content None = refl
+both-hole content (Some t) = refl
 
-pub body-hole : (w v : Store) (t : Term) (f : Tree → Option Tree) → HasHole w t → IsBodyOrHole f v (held_tree w t) None
-body-hole w v t f h = subst IsHole (sym (held-is w t (Hole h.inside h.anns) h.here)) tt
+module _ {S : Type 0} (v w u : Store) (made : IndexMap ℕ Term S) (content : Content) (t : Term) where
+  abbrev pub GivesBody : Term → Type 0
+  GivesBody r = Gives v w made u (λ f. remade content f (annotated (held_tree v t) none)) r
+
+  body-is : (x : Tree) → tree_at v t ≡ Some x → (r : Term) → Gives v w made u (λ f. remade content f (annotated x none)) r → GivesBody r
+  body-is x at r h = subst (λ z. Gives v w made u (λ f. remade content f (annotated z none)) r) (sym (held-is v t x at)) h
+
+  pub body-int : (z : ℤ) (r : Term) → HasInt v t z → Makes w u (Some (Int z none)) r → GivesBody r
+  body-int z r h m = body-is (Int z h.anns) h.here r (some-tree u r (Int z none) m.made, λ f k. sym m.made)
+
+  pub body-nil : (r : Term) → HasNil v t → Makes w u (Some (Items none none)) r → GivesBody r
+  body-nil r h m = body-is (Items none h.anns) h.here r (some-tree u r (Items none none) m.made, λ f k. sym m.made)
+
+  pub body-cons : (r : Term) → HasCons v t → Gives v w made u (λ f. option_map list_of (each f (items_of (held_tree v t)))) r → GivesBody r
+  body-cons r h k =
+      let items = more h.first h.rest in
+      let is = held-is v t (Items items h.anns) h.here in
+      let l = subst (λ z. Gives v w made u (λ f. option_map list_of (each f (items_of z))) r) is k in
+      body-is (Items items h.anns) h.here r (l.0, λ f q. both-list (each f items) ∙ l.1 f q)
+
+  module _ (h : HasHole v t) (inner : Term) (at : tree_at v inner ≡ part_at inner_of v t) where
+    inner-at : tree_at v inner ≡ Some h.inside
+    inner-at = at ∙ ap (option_and_then inner_of) h.here
+
+    pub hole-has : IsSound v → HasAll v made (body_items (held_tree v t)) → IsSome (get nat_eq made inner.0)
+    hole-has sound has =
+        let one = subst (λ z. HasAll v made (body_items z)) (held-is v t (Hole h.inside h.anns) h.here) has in
+        one-got v sound made inner h.inside inner-at one.0
+
+    pub body-hole : (x r : Term) → get nat_eq made inner.0 ≡ Some x → AreMade w made
+        → tree_at u r ≡ option_map (λ z. Hole (content_of content z) none) (tree_at w x) → GivesBody r × IsBare u r
+    body-hole x r got held is =
+        let there = held-at w x (held inner.0 x got) in
+        let y = Hole (content_of content (held_tree w x)) none in
+        let here : tree_at u r ≡ Some y = is ∙ ap (option_map (λ z. Hole (content_of content z) none)) there in (
+          body-is (Hole h.inside h.anns) h.here r (
+            some-tree u r y here,
+            λ f k. both-hole content (f h.inside) ∙ ap (option_map (λ z. Hole (content_of content z) none)) ((k inner.0 x got).1 h.inside inner-at) ∙ sym is,
+          ),
+          (y, here, refl),
+        )
 
 -- ---- applications
 
-module _ (w : Store) (t : Term) (s : Symbol) (h : HasAppl w t s) (args : Term) (at : tree_at w args ≡ part_at args_of w t) where
-  pub args-at : tree_at w args ≡ Some (list_of h.args)
-  args-at = at ∙ ap (option_and_then args_of) h.here
+both-second : (a b : Bool) → (a && b) ≡ true → b ≡ true
+both-second true b h = h
+both-second false b h = absurd (cc h)
 
-  args-items : items_at w args ≡ to_list h.args
-  args-items = ap (λ x. to_list (items_of x)) (held-is w args (list_of h.args) args-at)
+-- the name of a symbol may be one in another store
+pub allowed-name : (v : Store) → IsSound v → (s : Symbol) → IsSome (signature_of v s) → (name : List ℕ) (quoted : Bool) → name_at v s ≡ Some name
+    → quoted_at v s ≡ Some quoted → IsAllowed name quoted
+allowed-name v sound s h name quoted e f =
+    let g = some-value (signature_of v s) h in
+    let is = g.1 in
+    let a : Some g.0.name ≡ Some name = ap (option_and_then (λ g. Some g.name)) (sym is) ∙ e in
+    let b : Some g.0.quoted ≡ Some quoted = ap (option_and_then (λ g. Some g.quoted)) (sym is) ∙ f in
+    let c : g.0.name ≡ name = cc a in
+    let d : g.0.quoted ≡ quoted = cc b in
+    subst (λ q. IsAllowed name q) d (subst (λ n. IsAllowed n g.0.quoted) c
+    (both-second (list_all (λ b. nat_lt b 256) g.0.name) (is_allowed g.0.name g.0.quoted) (sound.valid_names s g.0 is)))
 
-  body-args : body_items (held_tree w t) ≡ items_at w args
-  body-args = ap body_items (held-is w t (Appl h.name h.quoted h.args h.anns) h.here) ∙ sym args-items
+module _ (v : Store) (t : Term) (s : Symbol) (h : HasAppl v t s) where
+  module _ (args : Term) (at : tree_at v args ≡ part_at args_of v t) where
+    args-at : tree_at v args ≡ Some (list_of h.args)
+    args-at = at ∙ ap (option_and_then args_of) h.here
 
-  pub args-has : {S : Type 0} (made : IndexMap ℕ Term S) → HasAll w made (body_items (held_tree w t)) → HasAll w made (items_at w args)
-  args-has made k = subst (HasAll w made) body-args k
+    args-items : items_of (held_tree v args) ≡ h.args
+    args-items = ap items_of (held-is v args (list_of h.args) args-at)
 
-  count-list : (ts : Trees) → length (to_list ts) ≡ count_of ts
-  count-list none = refl
-  count-list (more t ts) = let k = count-list ts in omega (arith, k)
+    pub args-has : {S : Type 0} (made : IndexMap ℕ Term S) → HasAll v made (body_items (held_tree v t))
+        → HasAll v made (to_list (items_of (held_tree v args)))
+    args-has made k =
+        let l = subst (λ z. HasAll v made (body_items z)) (held-is v t (Appl h.name h.quoted h.args h.anns) h.here) k in
+        subst (λ z. HasAll v made (to_list z)) (sym args-items) l
 
-  applied-is : (v : Store) → Grows w v → (list : Term) (us : Trees) → count_of us ≡ length (items_at w args) → tree_at v list ≡ Some (list_of us)
-      → applied (signature_of v s) (tree_at v list) ≡ Some (Appl h.name h.quoted us none)
-  applied-is v g list us count here =
-      let sig = g.symbols s _ h.symbol in
-      let e : count_of us ≡ count_of h.args = count ∙ ap length args-items ∙ count-list h.args in
-      let same : (count_of us == count_of h.args) ≡ true = eq-eqb (count_of us) (count_of h.args) e in
-      rw (sig, here, same) refl
+    applied-is : (x : Store) (g : Symbol) → signature_of x g ≡ signature_of v s → (list : Term) (us : Trees) → count_of us ≡ count_of (items_of (held_tree v args))
+        → tree_at x list ≡ Some (list_of us) → applied (signature_of x g) (tree_at x list) ≡ Some (Appl h.name h.quoted us none)
+    applied-is x g sig list us count here =
+        let named = sig ∙ h.symbol in
+        let e : count_of us ≡ count_of h.args = count ∙ ap count_of args-items in
+        let same : (count_of us == count_of h.args) ≡ true = eq-eqb (count_of us) (count_of h.args) e in
+        rw (named, here, same) refl
 
-  pub applied-there : (v : Store) → Grows w v → (list : Term) → (us : Trees) × (count_of us ≡ length (items_at w args)) × (tree_at v list ≡ Some (list_of us))
-      → IsSome (applied (signature_of v s) (tree_at v list))
-  applied-there v g list (us, count, here) = let k = applied-is v g list us count here in rw k refl
+    pub applied-there : (u x : Store) → Grows u x → (g : Symbol) → signature_of x g ≡ signature_of v s → (list : Term)
+        → IsListOf u (count_of (items_of (held_tree v args))) list → IsSome (applied (signature_of x g) (tree_at x list))
+    applied-there u x grows g sig list l =
+        let k = applied-is x g sig list l.0 l.1 (grows.trees list (list_of l.0) l.2) in rw k refl
 
-  each-counts : (f : Tree → Option Tree) (ts : List Tree) (us : Trees) → IsEach f ts us → count_of us ≡ length ts
-  each-counts f [] none k = refl
-  each-counts f (t ∷ ts) (more u us) k = let l = each-counts f ts us k.1 in omega (arith, l)
-  each-counts f [] (more u us) k = absurd k
-  each-counts f (t ∷ ts) none k = absurd k
-
-  pub body-appl : (v x : Store) → Grows w v → (list r : Term) (f : Tree → Option Tree)
-      → (us : Trees) × IsEach f (items_at w args) us × (tree_at v list ≡ Some (list_of us))
-      → Makes v x (applied (signature_of v s) (tree_at v list)) r → IsBodyOrHole f x (held_tree w t) (Some r)
-  body-appl v x g list r f (us, each, here) m =
-      let is = held-is w t (Appl h.name h.quoted h.args h.anns) h.here in
-      let u = Appl h.name h.quoted us none in
-      let body : IsBody f (Appl h.name h.quoted h.args h.anns) u = (us, subst (λ z. IsEach f z us) args-items each, refl) in
-      (u, m.made ∙ applied-is v g list us (each-counts f (items_at w args) us each) here, subst (λ z. IsBody f z u) (sym is) body)
+    pub body-appl : {S : Type 0} (w u x y : Store) (made : IndexMap ℕ Term S) (content : Content) → Grows u x → (g : Symbol) → signature_of x g ≡ signature_of v s
+        → (list r : Term) → IsListOf u (count_of (items_of (held_tree v args))) list
+        → Gives v w made u (λ f. option_map list_of (each f (items_of (held_tree v args)))) list
+        → Makes x y (applied (signature_of x g) (tree_at x list)) r
+        → Gives v w made y (λ f. remade content f (annotated (held_tree v t) none)) r × IsBare y r
+    body-appl w u x y made content grows g sig list r l gives m =
+        let here = l.2 in
+        let k = applied-is x g sig list l.0 l.1 (grows.trees list (list_of l.0) here) in
+        let b = Appl h.name h.quoted l.0 none in
+        let there : tree_at y r ≡ Some b = m.made ∙ k in (
+          body-is v w y made content t (Appl h.name h.quoted h.args h.anns) h.here r (
+            some-tree y r b there,
+            λ f q.
+                let e : option_map list_of (each f (items_of (held_tree v args))) ≡ Some (list_of l.0) = gives.1 f q ∙ here in
+                let d : option_map list_of (each f h.args) ≡ Some (list_of l.0) = ap (λ z. option_map list_of (each f z)) (sym args-items) ∙ e in
+                from-list (each f h.args) l.0 d ∙ sym there,
+          ),
+          (b, there, refl),
+        )
+      where
+        from-list : (o : Option Trees) (us : Trees) → option_map list_of o ≡ Some (list_of us)
+            → both (Appl h.name h.quoted) o (Some none) ≡ Some (Appl h.name h.quoted us none)
+        from-list None us e = absurd (cc e)
+        from-list (Some ts) us e = let same : ts ≡ us = cc e in ap (λ z. let o : Option Tree = Some (Appl h.name h.quoted z none) in o) same
 
 -- ---- annotations
 
@@ -292,56 +357,85 @@ annotated-none (Appl name quoted args anns) e = ap (Appl name quoted args) (sym 
 annotated-none (Items items anns) e = ap (Items items) (sym e)
 annotated-none (Hole inner anns) e = ap (Hole inner) (sym e)
 
-pub noted-is : (w : Store) (body list : Term) (v : Tree) (us : Trees) → tree_at w body ≡ Some v → tree_at w list ≡ Some (list_of us)
-    → noted (tree_at w body) (tree_at w list) ≡ Some (annotated v us)
-noted-is w body list v us e f = rw (e, f) refl
+module _ {S : Type 0} (v w : Store) (made : IndexMap ℕ Term S) (t : Tree) (body : Term) (bare : IsBare w body) where
+  pub annotated-bare : annotations t ≡ none → Gives v w made w (λ f. both annotated (tree_at w body) (each f (annotations t))) body
+  annotated-bare e = (
+    some-tree w body bare.0 bare.1,
+    λ f k.
+        let here = bare.1 in
+        let whole : both annotated (Some bare.0) (Some none) ≡ Some bare.0 = ap (λ z. let o : Option Tree = Some z in o) (annotated-none bare.0 bare.2) in
+        ap (λ z. both annotated (tree_at w body) (each f z)) e ∙ ap (λ z. both annotated z (Some none)) here ∙ whole ∙ sym here,
+  )
 
--- ---- elements
+  pub annotated-some : (u x : Store) → Grows w u → (anns list r : Term) → tree_at v anns ≡ Some (list_of (annotations t))
+      → Gives v w made u (λ f. option_map list_of (each f (items_of (held_tree v anns)))) list
+      → IsListOf u (count_of (items_of (held_tree v anns))) list → Makes u x (noted (tree_at u body) (tree_at u list)) r
+      → Gives v w made x (λ f. both annotated (tree_at w body) (each f (annotations t))) r
+  annotated-some u x g anns list r at gives l m =
+      let here = l.2 in
+      let old = bare.1 in
+      let now : tree_at u body ≡ Some bare.0 = g.trees body bare.0 old in
+      let noted-is : noted (tree_at u body) (tree_at u list) ≡ Some (annotated bare.0 l.0) = (rw (now, here) refl) in
+      let there : tree_at x r ≡ Some (annotated bare.0 l.0) = m.made ∙ noted-is in
+      let is : items_of (held_tree v anns) ≡ annotations t = ap items_of (held-is v anns (list_of (annotations t)) at) in (
+        some-tree x r (annotated bare.0 l.0) there,
+        λ f q.
+            let e : option_map list_of (each f (annotations t)) ≡ Some (list_of l.0) = ap (λ z. option_map list_of (each f z)) (sym is) ∙ gives.1 f q ∙ here in
+            ap (λ z. both annotated z (each f (annotations t))) old ∙ from-list (each f (annotations t)) l.0 e ∙ sym there,
+      )
+    where
+      from-list : (o : Option Trees) (us : Trees) → option_map list_of o ≡ Some (list_of us)
+          → both annotated (Some bare.0) o ≡ Some (annotated bare.0 us)
+      from-list None us e = absurd (cc e)
+      from-list (Some ts) us e = let same : ts ≡ us = cc e in ap (λ z. let o : Option Tree = Some (annotated bare.0 z) in o) same
 
-pub each-written : (ps : List Tree) (ts us : Trees) → IsEach (some_written ps) (to_list ts) us → us ≡ written_all ps ts
-each-written ps none none h = refl
-each-written ps none (more u us) h = absurd h
-each-written ps (more t ts) none h = absurd h
-each-written ps (more t ts) (more u us) h =
-    let first : written ps t ≡ u = (let e = h.0 in cc e) in
-    let rest = each-written ps ts us h.1 in
-    ap (λ z. more z us) (sym first) ∙ ap (more (written ps t)) rest
+-- ---- a part: a body with annotations
 
-pub body-entry : (ps : List Tree) (t u : Tree) (us : Trees) → IsBody (some_written ps) t u → IsEach (some_written ps) (to_list (annotations t)) us
-    → annotated u us ≡ entry ps t
-body-entry ps (Int z anns) u us e k = ap (λ x. annotated x us) e ∙ ap (Int z) (each-written ps anns us k)
-body-entry ps (Appl name quoted args anns) u us (vs, each, e) k =
-    ap (λ x. annotated x us) e ∙ ap (λ x. Appl name quoted x us) (each-written ps args vs each)
-    ∙ ap (Appl name quoted (written_all ps args)) (each-written ps anns us k)
-body-entry ps (Items items anns) u us (vs, each, e) k =
-    ap (λ x. annotated x us) e ∙ ap (λ x. Items x us) (each-written ps items vs each) ∙ ap (Items (written_all ps items)) (each-written ps anns us k)
-body-entry ps (Hole inner anns) u us e k = absurd e
+both-noted : (content : Content) (f : Tree → Option Tree) (t : Tree)
+    → both annotated (remade content f (annotated t none)) (each f (annotations t)) ≡ remade content f t
+both-noted content f (Int z anns) = by (each f anns)
+  where
+    by : (o : Option Trees) → both annotated (Some (Int z none)) o ≡ option_map (Int z) o
+    by None = refl
+    by (Some us) = refl
+both-noted content f (Appl name quoted args anns) = by (each f args) (each f anns)
+  where
+    by : (a b : Option Trees) → both annotated (both (Appl name quoted) a (Some none)) b ≡ both (Appl name quoted) a b
+    by None b = refl
+    by (Some us) None = refl
+    by (Some us) (Some vs) = refl
+both-noted content f (Items items anns) = by (each f items) (each f anns)
+  where
+    by : (a b : Option Trees) → both annotated (both Items a (Some none)) b ≡ both Items a b
+    by None b = refl
+    by (Some us) None = refl
+    by (Some us) (Some vs) = refl
+both-noted content f (Hole inner anns) = by (f inner) (each f anns)
+  where
+    by : (a : Option Tree) (b : Option Trees)
+        → both annotated (both (λ t. Hole (content_of content t)) a (Some none)) b ≡ both (λ t. Hole (content_of content t)) a b
+    by None b = refl
+    by (Some x) None = refl
+    by (Some x) (Some vs) = refl
 
-pub body-bare : (f : Tree → Option Tree) (t u : Tree) → IsBody f t u → annotations u ≡ none
-body-bare f (Int z anns) u e = ap annotations e
-body-bare f (Appl name quoted args anns) u (vs, each, e) = ap annotations e
-body-bare f (Items items anns) u (vs, each, e) = ap annotations e
-body-bare f (Hole inner anns) u e = absurd e
+module _ {S : Type 0} (v w u x : Store) (g : Grows w u) (made : IndexMap ℕ Term S) (content : Content) (t : Tree) (body r : Term)
+    (b : Gives v w made u (λ f. remade content f (annotated t none)) body)
+    (n : Gives v u made x (λ f. both annotated (tree_at u body) (each f (annotations t))) r) where
+  pub part-gives : Gives v w made x (λ f. remade content f t) r
+  part-gives = (
+    n.0,
+    λ f k.
+        sym (both-noted content f t) ∙ ap (λ z. both annotated z (each f (annotations t))) (b.1 f k) ∙ n.1 f (made-grown v w u g f made k),
+  )
 
--- ---- what a look-up returns
+-- what holds of a result by another relation
+pub ok-by : {T E : Type 0} (P Q : T → Type 0) → ((x : T) → P x → Q x) → (r : Result T E) → IfOk r P → IfOk r Q
+ok-by P Q f (Ok x) h = f x h
+ok-by P Q f (Err e) h = tt
 
-pub some-copied : {X : Type 0} (o : Option (Bor X)) (x : X) → option_copied o ≡ Some x → IsSome o
-some-copied None x e = absurd (cc e)
-some-copied (Some b) x e = refl
+module _ {S : Type 0} (v : Store) (made : IndexMap ℕ Term S) (t : Tree) (h : HasAll v made (direct t)) where
+  pub body-has : HasAll v made (body_items t)
+  body-has = all-left (HasOne v made) (body_items t) (to_list (annotations t)) (subst (HasAll v made) (direct-both t) h)
 
-pub copied-is : {X : Type 0} (o : Option (Bor X)) (b : Bor X) (x : X) → option_copied o ≡ Some x → o ≡ Some b → b.now ≡ x
-copied-is o b x e f = let k : Some b.now ≡ Some x = sym (ap option_copied f) ∙ e in cc k
-
--- ---- annotations that were made
-
-pub annotated-bare : (w : Store) (body : Term) (t v : Tree) (f : Tree → Option Tree) → annotations t ≡ none → tree_at w body ≡ Some v → annotations v ≡ none
-    → (us : Trees) × IsEach f (to_list (annotations t)) us × (tree_at w body ≡ Some (annotated v us))
-annotated-bare w body t v f e h k =
-    let each : IsEach f (to_list (annotations t)) none = subst (λ z. IsEach f (to_list z) none) (sym e) tt in
-    (none, each, h ∙ ap (λ z. let o : Option Tree = Some z in o) (sym (annotated-none v k)))
-
-pub annotated-some : (w v x : Store) (t : Tree) (body list r : Term) (u : Tree) (f : Tree → Option Tree) → Grows w v
-    → (us : Trees) × IsEach f (to_list (annotations t)) us × (tree_at v list ≡ Some (list_of us)) → tree_at w body ≡ Some u
-    → Makes v x (noted (tree_at v body) (tree_at v list)) r
-    → (us : Trees) × IsEach f (to_list (annotations t)) us × (tree_at x r ≡ Some (annotated u us))
-annotated-some w v x t body list r u f g (us, each, here) h m = (us, each, m.made ∙ noted-is v body list u us (g.trees body u h) here)
+  pub notes-have : HasAll v made (to_list (annotations t))
+  notes-have = all-right (HasOne v made) (body_items t) (to_list (annotations t)) (subst (HasAll v made) (direct-both t) h)

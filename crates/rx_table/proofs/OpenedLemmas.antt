@@ -1,14 +1,15 @@
 -- What the elements of a table open to.
 use Rattle.std.proofs.Common.{◌≡◌, inl, inr, ℕ, zero, suc, ◌+◌, ℤ, pos, negsuc, List, [], ◌∷◌, ◌++◌}
-use Rattle.std.proofs.Common.{Option, Some, None, IsSome, refl, ap, subst, ◌∙◌, length, length-append, slice_get, arith}
+use Rattle.std.proofs.Common.{Option, Some, None, IsSome, refl, sym, ap, subst, ◌∙◌, length, length-append, slice_get, arith}
 use Rattle.std.specs.List.{AllByRecursion}
 use Rattle.std.specs.Option.{option_map}
 use Rattle.rx_term.specs.Tree.{Tree, Trees, Int, Appl, Items, Hole, none, more, annotated, annotations, from_list, list_of, to_list}
 use Rattle.rx_term.proofs.TreeLemmas.{from_to_list}
 use Rattle.rx_table.specs.Table.{subterms, subterms_all}
 use Rattle.rx_table.specs.Opened.{both, broken_by_table, broken_element, broken_from, element, last_opened, opened, opened_all, tree_of_table}
-use Rattle.rx_table.specs.Inner.Made.{IsBody, IsEach}
-use Rattle.rx_table.specs.Inner.Opening.{all_opened, elements_of}
+use Rattle.rx_table.specs.Inner.Made.{each, remade}
+use Rattle.rx_table.specs.Inner.Opening.{IsHole, all_opened, elements_of}
+use Rattle.rx_table.specs.declared.made.Content.TheVariants.{Bare}
 use Rattle.rx_table.specs.Inner.Walk.{IsAmong}
 use Rattle.rx_table.proofs.SubtermLemmas.{all-at, all-both, among-either}
 
@@ -120,24 +121,25 @@ module _ (es : List Tree) where
 
   -- ---- one step
 
-  pub each-opened : (ts us : Trees) → IsEach (opened es) (to_list ts) us → opened_all es ts ≡ Some us
-  each-opened none none h = refl
-  each-opened none (more u us) h = absurd h
-  each-opened (more t ts) none h = absurd h
-  each-opened (more t ts) (more u us) h = let a = h.0 in let b = each-opened ts us h.1 in rw (a, b) refl
+  each-opened : (ts : Trees) → each (opened es) ts ≡ opened_all es ts
+  each-opened none = refl
+  each-opened (more t ts) = ap (both more (opened es t)) (each-opened ts)
 
-  pub body-opened : (t u : Tree) (us : Trees) → IsBody (opened es) t u → IsEach (opened es) (to_list (annotations t)) us
-      → opened es t ≡ Some (annotated u us)
-  body-opened (Int z anns) u us e k = let a = each-opened anns us k in rw (a, e) refl
-  body-opened (Appl name quoted args anns) u us (vs, each, e) k =
-      let a = each-opened args vs each in let b = each-opened anns us k in rw (a, b, e) refl
-  body-opened (Items items anns) u us (vs, each, e) k =
-      let a = each-opened items vs each in let b = each-opened anns us k in rw (a, b, e) refl
-  body-opened (Hole inner anns) u us e k = absurd e
+  -- a tree that is no placeholder opens to the tree of what the trees inside of it open to
+  pub remade-opened : (t : Tree) → (IsHole t → ⊥) → opened es t ≡ remade Bare (opened es) t
+  remade-opened (Int z anns) n = let a = each-opened anns in rw a refl
+  remade-opened (Appl name quoted args anns) n = let a = each-opened args in let b = each-opened anns in rw (a, b) refl
+  remade-opened (Items items anns) n = let a = each-opened items in let b = each-opened anns in rw (a, b) refl
+  remade-opened (Hole inner anns) n = absurd (n tt)
 
-  pub item-opened : (t u : Tree) (anns us : Trees) → opened es t ≡ Some u → IsEach (opened es) (to_list anns) us
-      → opened es (Hole (list_of (more t none)) anns) ≡ Some (annotated (Hole u none) us)
-  item-opened t u anns us e k = let a = each-opened anns us k in rw (e, a) refl
+  -- a list of one item in a placeholder
+  pub item-opened : (t u : Tree) (anns : Trees) → opened es t ≡ Some u
+      → opened es (Hole (list_of (more t none)) anns) ≡ both annotated (Some (Hole u none)) (each (opened es) anns)
+  item-opened t u anns e = ap (λ z. both Hole z (opened_all es anns)) e ∙ by (opened_all es anns) ∙ ap (both annotated (Some (Hole u none))) (sym (each-opened anns))
+    where
+      by : (o : Option Trees) → both Hole (Some u) o ≡ both annotated (Some (Hole u none)) o
+      by None = refl
+      by (Some us) = refl
 
   -- ---- all elements
 
@@ -217,7 +219,7 @@ broken-table (Int z anns) n e = absurd (cc e)
 broken-table (Appl name quoted args anns) n e = absurd (cc e)
 broken-table (Hole inner anns) n e = absurd (cc e)
 
--- ---- a part that stands for no tree
+-- ---- a part that does not open
 
 no-some : (o : Option Tree) → o ≡ None → IsSome o → ⊥
 no-some None e h = cc h

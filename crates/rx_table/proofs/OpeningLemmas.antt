@@ -1,34 +1,39 @@
--- Reading a table, over a store that grows.
+-- Reading a table of one store, whose term is made in another.
 use Rattle.std.proofs.Common.{◌≡◌, ℕ, zero, suc, ◌+◌, ◌<◌, ◌≤◌, ℤ, pos, negsuc, Bool, true, false, List, [], ◌∷◌, ◌++◌}
 use Rattle.std.proofs.Common.{Option, Some, None, IsSome, refl, sym, ap, subst, ◌∙◌, append_assoc, append-nil, length, length-append, slice_get, arith}
-use Rattle.std.proofs.Common.{Result, Ok, Err, IfErr, IsErrOf, cond, take, drop, get_or}
+use Rattle.std.proofs.Common.{Result, Ok, Err, IfErr, IsErrOf, take, drop, get_or}
 use Rattle.std.proofs.lemmas.List.{drop-map, length-map, map-append}
 use Rattle.std.proofs.Math.Seq.{drop-append_seam, drop-cons}
 use Rattle.std.specs.Prelude.{nat_eq}
 use Rattle.std.specs.List.{list_any}
 use Rattle.indexmap.specs.IndexMap.{IndexMap, get}
 use Rattle.indexmap.specs.IndexSet.{insert_key, insert_all}
-use Rattle.rx_term.specs.Tree.{Tree, Trees, Int, Hole, none, more, annotated, annotations, from_list, list_of, to_list, tree_eq}
+use Rattle.rx_term.specs.Tree.{Tree, Trees, Int, Appl, Items, Hole, none, more, annotated, annotations, from_list, list_of, to_list, tree_eq}
 use Rattle.rx_term.specs.Store.{Store, tree_at, held_open}
-use Rattle.rx_term.specs.Steps.{Grows}
+use Rattle.rx_term.specs.Steps.{Grows, IsSound}
+use Rattle.rx_term.specs.Kinds.{HasHole, HasKind}
 use Rattle.rx_term.specs.Walks.{HaveTrees, held_tree, held_trees}
 use Rattle.rx_term.specs.declared.Term.{Term}
+use Rattle.rx_term.specs.declared.Kind.{Kind}
+use Rattle.rx_term.specs.declared.Kind.TheVariants as kind
 use Rattle.rx_term.proofs.StoreLemmas.{Grows-refl, Grows-trans}
 use Rattle.rx_table.specs.Table.{different, direct, subterms, subterms_all}
-use Rattle.rx_table.specs.Opened.{broken_by_table, broken_element, broken_from, element, opened, tree_of_table}
+use Rattle.rx_table.specs.Opened.{both, broken_by_table, broken_element, broken_from, element, opened, tree_of_table}
 use Rattle.rx_table.specs.Inner.Faults.{IsOpenFault}
 use Rattle.rx_table.specs.Inner.Walk.{AreThere, Begun, IsAmong, term_of, trees_of}
-use Rattle.rx_table.specs.Inner.Made.{HasAll, HasOne, IsBodyOrHole, IsEach, IsMadeOf, Made}
-use Rattle.rx_table.specs.Inner.Opening.{AreHeld, HasBroken, HasInside, IsNext, IsOpened, IsOpening, Opens, OpensOne, all_opened, elements_of, inside_of}
-use Rattle.rx_table.specs.declared.faults.OpenFault.{OpenFault}
-use Rattle.rx_table.specs.declared.faults.OpenFault.TheVariants as opening
+use Rattle.rx_table.specs.Inner.Made.{AreMade, Gives, HasAll, HasOne, IsBare, Made, each, remade}
+use Rattle.rx_table.specs.Inner.Opening.{AreHeld, HasBroken, HasInside, IsHole, IsNext, IsOpened, IsOpening, Opens, OpensOne, all_opened, elements_of, inside_of}
+use Rattle.rx_table.specs.declared.faults.TableFault.{TableFault}
+use Rattle.rx_table.specs.declared.faults.TableFault.TheVariants as opening
 use Rattle.rx_table.specs.declared.opening.Inside.TheVariants.{Item}
-use Rattle.rx_table.proofs.SubtermLemmas.{all-at, all-both, all-right, among-different, among-left, among-right, among-still, are-same}
-use Rattle.rx_table.proofs.SubtermLemmas.{begun-both, begun-different, begun-none, begun-subterms, direct-inside, inside, inside-before, subterms-inside}
+use Rattle.rx_table.specs.declared.opening.Opening.{Opening}
+use Rattle.rx_table.specs.declared.made.Content.TheVariants.{Bare}
+use Rattle.rx_table.proofs.SubtermLemmas.{all-at, all-right, among-different, among-left, among-right, among-still, are-same}
+use Rattle.rx_table.proofs.SubtermLemmas.{begun-both, begun-different, begun-none, begun-subterms, direct-inside, inside, subterms-inside}
 use Rattle.rx_table.proofs.WalkLemmas.{flat-inside, held-at, held-is, inserted-both, some-tree}
-use Rattle.rx_table.proofs.MadeLemmas.{all-grown, body-bare, held-grown, made-grown, some-grown}
-use Rattle.rx_table.proofs.EntryLemmas.{has-among, has-more, has-new, made-more, split, take-whole, taken-more, there-at, there-grown, trees-grown}
-use Rattle.rx_table.proofs.OpenedLemmas.{body-opened, broken-by, broken-first, broken-table, item-opened, no-table, opened-first, opened-more, table-of-last, unbroken-first}
+use Rattle.rx_table.proofs.MadeLemmas.{held-grown, made-grown, one-got, one-made, some-grown}
+use Rattle.rx_table.proofs.EntryLemmas.{direct-has, none-made, split}
+use Rattle.rx_table.proofs.OpenedLemmas.{broken-by, broken-first, broken-table, item-opened, no-table, opened-first, opened-more, remade-opened, table-of-last, unbroken-first}
 
 -- ---- references of opened elements
 
@@ -88,75 +93,81 @@ element-is w rs z h o e t is = subst (λ x. IsOpened (held_trees w rs) x w o) (s
 -- ---- one part
 
 -- a result in terms of the store before other terms were made
-pub opened-as : (w v u : Store) → Grows w v → (elements : List Term) → AreHeld w elements → (t : Tree) (o q : Option Term) → o ≡ q
-    → IsOpened (held_trees v elements) t u o → IsOpened (held_trees w elements) t u q
-opened-as w v u g elements h t o q e k =
-    subst (λ zs. IsOpened zs t u q) (trees-still w v g elements h) (subst (IsOpened (held_trees v elements) t u) e k)
+pub opened-as : (w m u : Store) → Grows w m → (elements : List Term) → AreHeld w elements → (t : Tree) (o q : Option Term) → o ≡ q
+    → IsOpened (held_trees m elements) t u o → IsOpened (held_trees w elements) t u q
+opened-as w m u g elements h t o q e k =
+    subst (λ zs. IsOpened zs t u q) (trees-still w m g elements h) (subst (IsOpened (held_trees m elements) t u) e k)
+
+pub hole-is : (v : Store) (t : Term) → HasHole v t → IsHole (held_tree v t)
+hole-is v t h = subst IsHole (sym (held-is v t (Hole h.inside h.anns) h.here)) tt
+
+-- a placeholder has no other kind
+pub no-hole : (v : Store) (t : Term) (k : Kind) → HasKind v t k → (k ≡ kind.Hole → ⊥) → IsHole (held_tree v t) → ⊥
+no-hole v t (kind.Int z) h n i = subst IsHole (held-is v t (Int z h.anns) h.here) i
+no-hole v t kind.Nil h n i = subst IsHole (held-is v t (Items none h.anns) h.here) i
+no-hole v t kind.Cons h n i = subst IsHole (held-is v t (Items (more h.first h.rest) h.anns) h.here) i
+no-hole v t (kind.Appl s) h n i = subst IsHole (held-is v t (Appl h.name h.quoted h.args h.anns) h.here) i
+no-hole v t kind.Hole h n i = n refl
+
+-- the body of a placeholder
+pub hole-bare : (w m : Store) (inner body : Term) → IsSome (tree_at w inner) → tree_at m body ≡ held_open (tree_at w inner) → IsBare m body
+hole-bare w m inner body h is =
+    let at = held-at w inner h in
+    (Hole (held_tree w inner) none, is ∙ ap held_open at, refl)
 
 module _ {S : Type 0} where
-  pub opens-still : (w v : Store) → Grows w v → (elements : List Term) → AreHeld w elements → (made : IndexMap ℕ Term S)
-      → Made v (opened (held_trees w elements)) made → Opens v elements made
-  opens-still w v g elements h made k = subst (λ zs. Made v (opened zs) made) (sym (trees-still w v g elements h)) k
+  pub opens-still : (v w m : Store) → Grows w m → (elements : List Term) → AreHeld w elements → (made : IndexMap ℕ Term S)
+      → Made v m (opened (held_trees w elements)) made → Opens v m elements made
+  opens-still v w m g elements h made k = subst (λ zs. Made v m (opened zs) made) (sym (trees-still w m g elements h)) k
 
-  pub inside-still : (w v : Store) → Grows w v → (made : IndexMap ℕ Term S) (t : Term) → IsSome (tree_at w t) → HasAll w made (inside_of (held_tree w t))
-      → HasAll v made (inside_of (held_tree v t))
-  inside-still w v g made t held h =
-      subst (λ z. HasAll v made (inside_of z)) (sym (held-grown w v g t held)) (all-grown w v g made (inside_of (held_tree w t)) h)
+  pub inside-has : (v : Store) (made : IndexMap ℕ Term S) (t : Tree) → HasAll v made (inside_of t) → HasAll v made (direct t)
+  inside-has v made t h = direct-has v made t (subst (HasAll v made) (sym (flat-inside t)) h)
 
-  pub direct-has : (w : Store) (made : IndexMap ℕ Term S) (t : Tree) → HasAll w made (inside_of t) → HasAll w made (direct t)
-  direct-has w made t h = has-among w made (inside t) (direct t) (subst (HasAll w made) (sym (flat-inside t)) h) (direct-inside t)
-
-  pub item-has : (w : Store) (made : IndexMap ℕ Term S) (t : Tree) (item : Term) → HasAll w made (inside_of t) → HasInside w t (Item item)
-      → IsSome (tree_at w item) × HasOne w made (held_tree w item)
-  item-has w made t item h (u, (anns, at, is)) =
+  pub item-has : (v : Store) → IsSound v → (made : IndexMap ℕ Term S) (t : Tree) (item : Term) → HasAll v made (inside_of t) → HasInside v t (Item item)
+      → IsSome (get nat_eq made item.0)
+  item-has v sound made t item h (u, (anns, at, is)) =
       let list = list_of (more u none) in
       let among : IsAmong u (subterms list) = subst (IsAmong u) (sym (subterms-inside list)) (among-left u (inside list) (list ∷ []) (direct-inside list).0) in
       let here : IsAmong u (inside (Hole list anns)) = among-left u (subterms list) (subterms_all anns) among in
-      let has = subst (HasAll w made) (sym (flat-inside (Hole list anns))) (subst (λ z. HasAll w made (inside_of z)) is h) in
-      let one = all-at (HasOne w made) (inside (Hole list anns)) u has here in (
-        some-tree w item u at,
-        subst (HasOne w made) (sym (held-is w item u at)) one,
-      )
+      let has = subst (HasAll v made) (sym (flat-inside (Hole list anns))) (subst (λ z. HasAll v made (inside_of z)) is h) in
+      one-got v sound made item u at (all-at (HasOne v made) (inside (Hole list anns)) u has here)
 
-  pub part-opened : (w v x : Store) → Grows w v → (es : List Tree) (made : IndexMap ℕ Term S) (t body r : Term) → IsSome (tree_at w t)
-      → Made w (opened es) made → IsBodyOrHole (opened es) v (held_tree w t) (Some body)
-      → ((f : Tree → Option Tree) (u : Tree) → Made v f made → tree_at v body ≡ Some u → annotations u ≡ none
-      → (us : Trees) × IsEach f (to_list (annotations (held_tree v t))) us × (tree_at x r ≡ Some (annotated u us)))
-      → IsOpened es (held_tree w t) x (Some r)
-  part-opened w v x g es made t body r held m (u, at, is) h =
-      let k = h (opened es) u (made-grown w v g (opened es) made m) at (body-bare (opened es) (held_tree w t) u is) in
-      let each = subst (λ z. IsEach (opened es) (to_list (annotations z)) k.0) (held-grown w v g t held) k.1 in
-      (body-opened es (held_tree w t) u k.0 is each ∙ sym k.2, some-tree x r (annotated u k.0) k.2)
+  pub part-opened : (v w x : Store) (es : List Tree) (made : IndexMap ℕ Term S) (t : Tree) (r : Term) → (IsHole t → ⊥) → Made v w (opened es) made
+      → Gives v w made x (λ f. remade Bare f t) r → IsOpened es t x (Some r)
+  part-opened v w x es made t r n m h = (remade-opened es t n ∙ h.1 (opened es) m, h.0)
 
-  pub hole-opened : (w v x : Store) → Grows w v → (es : List Tree) (made : IndexMap ℕ Term S) (t item inner body r : Term) → IsSome (tree_at w t)
-      → Made w (opened es) made → HasInside w (held_tree w t) (Item item) → opened es (held_tree w item) ≡ tree_at w inner → IsSome (tree_at w inner)
-      → tree_at v body ≡ held_open (tree_at w inner)
-      → ((f : Tree → Option Tree) (u : Tree) → Made v f made → tree_at v body ≡ Some u → annotations u ≡ none
-      → (us : Trees) × IsEach f (to_list (annotations (held_tree v t))) us × (tree_at x r ≡ Some (annotated u us)))
-      → IsOpened es (held_tree w t) x (Some r)
-  hole-opened w v x g es made t item inner body r held m (u, (anns, at, is)) e some b h =
+  pub hole-opened : (v w m x : Store) → Grows w m → (es : List Tree) (made : IndexMap ℕ Term S) (t : Tree) (item inner body r : Term)
+      → Made v w (opened es) made → HasInside v t (Item item) → get nat_eq made item.0 ≡ Some inner
+      → tree_at m body ≡ held_open (tree_at w inner)
+      → Gives v m made x (λ f. both annotated (tree_at m body) (each f (annotations t))) r
+      → IsOpened es t x (Some r)
+  hole-opened v w m x g es made t item inner body r k (u, (anns, at, is)) got b h =
+      let l = k item.0 inner got in
       let y = held_tree w inner in
-      let here : tree_at w inner ≡ Some y = held-at w inner some in
-      let item-is : opened es u ≡ Some y = ap (opened es) (sym (held-is w item u at)) ∙ e ∙ here in
-      let body-is : tree_at v body ≡ Some (Hole y none) = b ∙ ap held_open here in
-      let k = h (opened es) (Hole y none) (made-grown w v g (opened es) made m) body-is refl in
-      let same : held_tree v t ≡ Hole (list_of (more u none)) anns = held-grown w v g t held ∙ is in
-      let each : IsEach (opened es) (to_list anns) k.0 = subst (λ z. IsEach (opened es) (to_list (annotations z)) k.0) same k.1 in
-      (ap (opened es) is ∙ item-opened es u y anns k.0 item-is each ∙ sym k.2, some-tree x r (annotated (Hole y none) k.0) k.2)
+      let here : tree_at w inner ≡ Some y = held-at w inner l.0 in
+      let item-is : opened es u ≡ Some y = l.1 u at ∙ here in
+      let body-is : tree_at m body ≡ Some (Hole y none) = b ∙ ap held_open here in
+      let gives : both annotated (tree_at m body) (each (opened es) (annotations t)) ≡ tree_at x r = h.1 (opened es) (made-grown v w m g (opened es) made k) in (
+        ap (opened es) is ∙ item-opened es u y anns item-is ∙ ap (λ z. both annotated z (each (opened es) anns)) (sym body-is)
+            ∙ ap (λ z. both annotated (tree_at m body) (each (opened es) (annotations z))) (sym is) ∙ gives,
+        h.0,
+      )
 
 -- ---- errors
 
-pub other-fault : {X : Type 0} (w : Store) (P Q : ℕ → Type 0) → ((n : ℕ) → P n → Q n) → (r : Result X OpenFault) → IfErr r (IsOpenFault w P)
+pub other-fault : {X : Type 0} (w : Store) (P Q : ℕ → Type 0) → ((n : ℕ) → P n → Q n) → (r : Result X TableFault) → IfErr r (IsOpenFault w P)
     → IfErr r (IsOpenFault w Q)
 other-fault w P Q f (Ok x) h = tt
+other-fault w P Q f (Err opening.Long) h = h
 other-fault w P Q f (Err opening.NotTable) h = h
 other-fault w P Q f (Err (opening.Element n)) h = f n h
 other-fault w P Q f (Err opening.Memory) h = h
 other-fault w P Q f (Err opening.Full) h = h
 
-pub element-fault : {X : Type 0} (w : Store) (P : ℕ → Type 0) (n : ℕ) (r : Result X OpenFault) → IfErr r (IsOpenFault w P)
+pub element-fault : {X : Type 0} (w : Store) (P : ℕ → Type 0) (n : ℕ) (r : Result X TableFault) → IfErr r (IsOpenFault w P)
     → IsErrOf r (opening.Element n) → P n
 element-fault w P n (Ok x) h e = absurd (cc e)
+element-fault w P n (Err opening.Long) h e = absurd (cc e)
 element-fault w P n (Err opening.NotTable) h e = absurd (cc e)
 element-fault w P n (Err (opening.Element m)) h e = let same : m ≡ n = cc e in subst P same h
 element-fault w P n (Err opening.Memory) h e = absurd (cc e)
@@ -191,74 +202,14 @@ broken-opened w elements t have rs same n k =
 
 -- ---- the parts of an element
 
-module _ {S : Type 0} where
-  pub record OpeningParts (w : Store) (es : List Tree) (parts : List ℕ) (old : IndexMap ℕ Term S) (i : ℕ) (v : Store) (made : IndexMap ℕ Term S) : Type 0 where
-    pub grows : Grows w v
-    pub opens : Made v (opened es) made
-    pub has : (before : List Tree) → HasAll w old before → HasAll v made (before ++ trees_of w (take i parts))
-
-  pub parts-begin : (w : Store) (es : List Tree) (parts : List ℕ) (old : IndexMap ℕ Term S) → Made w (opened es) old → OpeningParts w es parts old 0 w old
-  parts-begin w es parts old h = record {
-    grows = Grows-refl w;
-    opens = h;
-    has = λ before k. subst (HasAll w old) (sym (append-nil before)) k;
-  }
-
-  -- what a part needs
-  pub part-ready : (w : Store) (es : List Tree) (parts : List ℕ) (old : IndexMap ℕ Term S) (i : ℕ) (v : Store) (made : IndexMap ℕ Term S)
-      → i < length parts → AreThere w parts → IsNext w old (trees_of w parts) → OpeningParts w es parts old i v made
-      → IsSome (tree_at v (term_of (get_or parts i 0))) × HasAll v made (inside_of (held_tree v (term_of (get_or parts i 0))))
-  part-ready w es parts old i v made lt there (before, begun, had) k =
-      let n = get_or parts i 0 in
-      let t = held_tree w (term_of n) in
-      let held = there-at w parts i there lt in
-      let cut : before ++ trees_of w parts ≡ (before ++ trees_of w (take i parts)) ++ t ∷ trees_of w (drop (suc i) parts) =
-      ap (λ z. before ++ z) (split w parts i lt) ∙ sym (append_assoc before (trees_of w (take i parts)) (t ∷ trees_of w (drop (suc i) parts))) in
-      let among = inside-before t (before ++ trees_of w (take i parts)) (trees_of w (drop (suc i) parts)) (subst Begun cut begun) in
-      let has = has-among v made (before ++ trees_of w (take i parts)) (inside t) (k.has before had) among in (
-        some-grown w v k.grows (term_of n) held,
-        subst (λ z. HasAll v made (inside_of z)) (sym (held-grown w v k.grows (term_of n) held)) (subst (HasAll v made) (flat-inside t) has),
-      )
-
-  -- one part more
-  pub parts-next : (w : Store) (es : List Tree) (parts : List ℕ) (first : IndexMap ℕ Term S) (i : ℕ) (v u : Store) (old new : IndexMap ℕ Term S) (r : Term)
-      → i < length parts → AreThere w parts → OpeningParts w es parts first i v old → Grows v u
-      → IsOpened es (held_tree v (term_of (get_or parts i 0))) u (Some r)
-      → ((q : ℕ) → get nat_eq new q ≡ cond (nat_eq (get_or parts i 0) q) (Some r) (get nat_eq old q))
-      → OpeningParts w es parts first (i + 1) u new
-  parts-next w es parts first i v u old new r lt there k g (is, some) updates =
-      let n = get_or parts i 0 in
-      let t = held_tree w (term_of n) in
-      let all = Grows-trans k.grows g in
-      let held = there-at w parts i there lt in
-      let at : tree_at u (term_of n) ≡ Some t = all.trees (term_of n) t (held-at w (term_of n) held) in
-      let same = held-grown w v k.grows (term_of n) held in
-      let one : IsMadeOf u (opened es) n r = (some-tree u (term_of n) t at, some, ap (opened es) (held-is u (term_of n) t at ∙ sym same) ∙ is) in
-      record {
-        grows = all;
-        opens = made-more u old new n r updates (opened es) (made-grown v u g (opened es) old k.opens) one;
-        has = λ before h.
-            let xs = before ++ trees_of w (take i parts) in
-            let listed : before ++ trees_of w (take (i + 1) parts) ≡ xs ++ t ∷ [] =
-            ap (λ z. before ++ z) (taken-more w parts i lt) ∙ sym (append_assoc before (trees_of w (take i parts)) (t ∷ [])) in
-            subst (HasAll u new) (sym listed) (all-both (HasOne u new) xs (t ∷ [])
-            (has-more u old new n r updates some xs (all-grown v u g old xs (k.has before h))) (has-new u old new n r updates some t at, tt));
-      }
-
-  pub parts-end : (w : Store) (es : List Tree) (parts : List ℕ) (old : IndexMap ℕ Term S) (i : ℕ) (v : Store) (made : IndexMap ℕ Term S) → length parts ≤ i
-      → OpeningParts w es parts old i v made → (before : List Tree) → HasAll w old before → HasAll v made (before ++ trees_of w parts)
-  parts-end w es parts old i v made le k before h =
-      subst (λ ns. HasAll v made (before ++ trees_of w ns)) (take-whole parts i le) (k.has before h)
-
--- a part that stands for no tree
-pub part-broken : (w : Store) (es : List Tree) (parts : List ℕ) (i : ℕ) (v : Store) → i < length parts → AreThere w parts → Grows w v
-    → opened es (held_tree v (term_of (get_or parts i 0))) ≡ None → HasBroken es (trees_of w parts)
-part-broken w es parts i v lt there g e =
-    let n = get_or parts i 0 in
-    let t = held_tree w (term_of n) in
-    let among : IsAmong t (trees_of w parts) = subst (IsAmong t) (sym (split w parts i lt))
-    (among-right t (trees_of w (take i parts)) (t ∷ trees_of w (drop (suc i) parts)) (among-left t (t ∷ []) (trees_of w (drop (suc i) parts)) (are-same (t ∷ [])).0)) in
-    (t, among, sym (ap (opened es) (held-grown w v g (term_of n) (there-at w parts i there lt))) ∙ e)
+-- a part that does not open
+pub part-broken : (v : Store) (es : List Tree) (parts : List ℕ) (i : ℕ) → i < length parts
+    → opened es (held_tree v (term_of (get_or parts i 0))) ≡ None → HasBroken es (trees_of v parts)
+part-broken v es parts i lt e =
+    let t = held_tree v (term_of (get_or parts i 0)) in
+    let among : IsAmong t (trees_of v parts) = subst (IsAmong t) (sym (split v parts i lt))
+    (among-right t (trees_of v (take i parts)) (t ∷ trees_of v (drop (suc i) parts)) (among-left t (t ∷ []) (trees_of v (drop (suc i) parts)) (are-same (t ∷ [])).0)) in
+    (t, among, e)
 
 -- ---- one element
 
@@ -277,86 +228,87 @@ there-drop w zero ns h = h
 there-drop w (suc n) [] h = tt
 there-drop w (suc n) (m ∷ ns) h = there-drop w n ns h.1
 
-module _ {S : Type 0} where
-  pub one-opens : (w : Store) (f : Tree → Option Tree) (made : IndexMap ℕ Term S) (t : Tree) → Made w f made → HasOne w made t → IsSome (f t)
-  one-opens w f made t m (n, (r, at, got, held)) =
-      let k = m n r got in
-      subst (λ z. IsSome (f z)) (held-is w (term_of n) t at) (subst IsSome (sym k.2) held)
+-- the parts of one more element
+module _ (v w : Store) (o : Opening) (k : IsOpening v w o) (t : Tree) (new : List ℕ) (more-trees : trees_of v new ≡ different (k.before ++ subterms t)) where
+  begun-all : Begun (k.before ++ subterms t)
+  begun-all = begun-both k.before (subterms t) k.begun (begun-subterms t)
 
-  -- the parts of one more element
-  module _ (w : Store) (old new : List ℕ) (made : IndexMap ℕ Term S) (elements : List Term) (k : IsOpening w old made elements) (t : Tree)
-      (more-trees : trees_of w new ≡ different (k.before ++ subterms t)) where
-    begun-all : Begun (k.before ++ subterms t)
-    begun-all = begun-both k.before (subterms t) k.begun (begun-subterms t)
+  added : (zs : List Tree) × (trees_of v new ≡ trees_of v o.parts.keys ++ zs)
+  added =
+      let l = inserted-last (different k.before) (subterms t) in
+      (l.0, more-trees ∙ inserted-both [] k.before (subterms t) ∙ l.1 ∙ ap (λ z. z ++ l.0) (sym k.trees))
 
-    added : (zs : List Tree) × (trees_of w new ≡ trees_of w old ++ zs)
-    added =
-        let l = inserted-last (different k.before) (subterms t) in
-        (l.0, more-trees ∙ inserted-both [] k.before (subterms t) ∙ l.1 ∙ ap (λ z. z ++ l.0) (sym k.trees))
+  count-old : length (trees_of v o.parts.keys) ≡ length o.parts.keys
+  count-old = length-map o.parts.keys (λ n. held_tree v (term_of n))
 
-    count-old : length (trees_of w old) ≡ length old
-    count-old = length-map old (λ n. held_tree w (term_of n))
+  pub first-within : length o.parts.keys ≤ length new
+  first-within =
+      let a = count-old in
+      let b = length-map new (λ n. held_tree v (term_of n)) in
+      let c = ap length added.1 ∙ length-append (trees_of v o.parts.keys) added.0 in
+      omega (arith, a, b, c)
 
-    pub first-within : length old ≤ length new
-    first-within =
-        let a = count-old in
-        let b = length-map new (λ n. held_tree w (term_of n)) in
-        let c = ap length added.1 ∙ length-append (trees_of w old) added.0 in
-        omega (arith, a, b, c)
+  parts-cut : trees_of v new ≡ trees_of v o.parts.keys ++ trees_of v (drop (length o.parts.keys) new)
+  parts-cut =
+      let n = length o.parts.keys in
+      let a : trees_of v (drop n new) ≡ drop n (trees_of v new) = sym (drop-map (λ n. held_tree v (term_of n)) n new) in
+      let b : drop n (trees_of v new) ≡ added.0 =
+      ap (λ n. drop n (trees_of v new)) (sym count-old) ∙ ap (drop (length (trees_of v o.parts.keys))) added.1 ∙ drop-append_seam (trees_of v o.parts.keys) added.0 in
+      added.1 ∙ ap (λ z. trees_of v o.parts.keys ++ z) (sym (a ∙ b))
 
-    pub parts-cut : trees_of w new ≡ trees_of w old ++ trees_of w (drop (length old) new)
-    parts-cut =
-        let a : trees_of w (drop (length old) new) ≡ drop (length old) (trees_of w new) = sym (drop-map (λ n. held_tree w (term_of n)) (length old) new) in
-        let b : drop (length old) (trees_of w new) ≡ added.0 =
-        ap (λ n. drop n (trees_of w new)) (sym count-old) ∙ ap (drop (length (trees_of w old))) added.1 ∙ drop-append_seam (trees_of w old) added.0 in
-        added.1 ∙ ap (λ z. trees_of w old ++ z) (sym (a ∙ b))
+  module _ (ns : List ℕ) (e : ns ≡ drop (length o.parts.keys) new) where
+    pub parts-next-to : IsNext v o.made (trees_of v ns)
+    parts-next-to = subst (λ ns. IsNext v o.made (trees_of v ns)) (sym e)
+        (trees_of v o.parts.keys, subst Begun (sym more-trees ∙ parts-cut) (begun-different (k.before ++ subterms t) begun-all), k.has)
 
-    pub parts-next-to : IsNext w made (trees_of w (drop (length old) new))
-    parts-next-to = (trees_of w old, subst Begun (sym more-trees ∙ parts-cut) (begun-different (k.before ++ subterms t) begun-all), k.has)
+    pub parts-there : AreThere v new → AreThere v ns
+    parts-there h = subst (AreThere v) (sym e) (there-drop v (length o.parts.keys) new h)
 
-    pub parts-there : AreThere w new → AreThere w (drop (length old) new)
-    parts-there h = there-drop w (length old) new h
+    -- if a part does not open, the element does not open
+    pub element-broken : HasBroken (held_trees w o.elements.items) (trees_of v ns) → opened (held_trees w o.elements.items) t ≡ None
+    element-broken (p, among, is) =
+        let there : IsAmong p (trees_of v (drop (length o.parts.keys) new)) = subst (λ ns. IsAmong p (trees_of v ns)) e among in
+        let here : IsAmong p (trees_of v new) = subst (IsAmong p) (sym parts-cut) (among-right p (trees_of v o.parts.keys) (trees_of v (drop (length o.parts.keys) new)) there) in
+        broken-by (held_trees w o.elements.items) k.before t p (among-different p (k.before ++ subterms t) (subst (IsAmong p) more-trees here)) is
+        (λ q. one-made v w (opened (held_trees w o.elements.items)) o.made p k.opens
+        (all-at (HasOne v o.made) (trees_of v o.parts.keys) p k.has (subst (IsAmong p) (sym k.trees) (among-still p k.before q))))
 
-    pub all-made : (u : Store) (now : IndexMap ℕ Term S) (ns : List ℕ) → ns ≡ drop (length old) new → HasAll u now (trees_of w old ++ trees_of w ns)
-        → HasAll u now (trees_of w new)
-    all-made u now ns e h = subst (HasAll u now) (ap (λ z. trees_of w old ++ trees_of w z) e ∙ sym parts-cut) h
+    module _ {S : Type 0} (now : IndexMap ℕ Term S) (has : HasAll v now (trees_of v o.parts.keys ++ trees_of v ns)) where
+      all-made : HasAll v now (trees_of v new)
+      all-made = subst (HasAll v now) (ap (λ z. trees_of v o.parts.keys ++ trees_of v z) e ∙ sym parts-cut) has
 
-    pub element-among : IsAmong t (trees_of w new)
-    element-among = subst (IsAmong t) (sym more-trees) (among-still t (k.before ++ subterms t)
-        (among-right t k.before (subterms t) (subst (IsAmong t) (sym (subterms-inside t)) (among-right t (inside t) (t ∷ []) (are-same (t ∷ [])).0))))
+      element-among : IsAmong t (trees_of v new)
+      element-among = subst (IsAmong t) (sym more-trees) (among-still t (k.before ++ subterms t)
+          (among-right t k.before (subterms t) (subst (IsAmong t) (sym (subterms-inside t)) (among-right t (inside t) (t ∷ []) (are-same (t ∷ [])).0))))
 
-    -- where a part stands for no tree, the element stands for none
-    pub element-broken : HasBroken (held_trees w elements) (trees_of w (drop (length old) new)) → opened (held_trees w elements) t ≡ None
-    element-broken (p, among, e) =
-        let here : IsAmong p (trees_of w new) = subst (IsAmong p) (sym parts-cut) (among-right p (trees_of w old) (trees_of w (drop (length old) new)) among) in
-        broken-by (held_trees w elements) k.before t p (among-different p (k.before ++ subterms t) (subst (IsAmong p) more-trees here)) e
-        (λ q. one-opens w (opened (held_trees w elements)) made p k.opens
-        (all-at (HasOne w made) (trees_of w old) p k.has (subst (IsAmong p) (sym k.trees) (among-still p k.before q))))
+      pub element-has : HasOne v now t
+      element-has = all-at (HasOne v now) (trees_of v new) t all-made element-among
 
-    -- after the parts were made
-    pub element-opened : (u : Store) (now : IndexMap ℕ Term S) (r : Term) (after : List Term) → AreThere w new → Grows w u → Opens u elements now
-        → HasAll u now (trees_of w new) → IsSome (tree_at u r) → opened (held_trees u elements) t ≡ tree_at u r → after ≡ elements ++ r ∷ []
-        → IsOpening u new now after × OpensOne (held_trees w elements) t (held_trees u after)
-    element-opened u now r after there g opens has some is pushed =
-        let es = held_trees w elements in
-        let same : held_trees u elements ≡ es = trees-still w u g elements k.held in
-        let x = held_tree u r in
-        let trees-after : held_trees u after ≡ held_trees u elements ++ x ∷ [] = ap (held_trees u) pushed ∙ map-append (held_tree u) elements (r ∷ []) in
-        let still = trees-grown w u g new there in
-        let here : opened (held_trees u elements) t ≡ Some x = is ∙ held-at u r some in (
-          record {
-            before = k.before ++ subterms t;
-            begun = begun-all;
-            trees = still ∙ more-trees;
-            there = there-grown w u g new there;
-            held = subst (AreHeld u) (sym pushed) (held-both u elements (r ∷ []) (held-still w u g elements k.held) (some, tt));
-            opens = subst (λ zs. Made u (opened zs) now) (sym trees-after)
-                (λ n b got. let q = opens n b got in
-                (q.0, q.1, opened-more (held_trees u elements) (x ∷ []) (held_tree u (term_of n)) (subst IsSome (sym q.2) q.1) ∙ q.2));
-            has = subst (HasAll u now) (sym still) has;
-          },
-          (x, ap (λ zs. opened zs t) (sym same) ∙ here, trees-after ∙ ap (λ z. z ++ x ∷ []) same),
-        )
+  -- after the parts were made
+  pub element-opened : (ns : List ℕ) → ns ≡ drop (length o.parts.keys) new → (u : Store) (after : Opening) (next r : Term) → tree_at v next ≡ Some t → AreThere v new
+      → Grows w u → Opens v u o.elements.items after.made → HasAll v after.made (trees_of v o.parts.keys ++ trees_of v ns)
+      → get nat_eq after.made next.0 ≡ Some r → after.parts.keys ≡ new → after.elements.items ≡ o.elements.items ++ r ∷ []
+      → IsOpening v u after × OpensOne (held_trees w o.elements.items) t (held_trees u after.elements.items)
+  element-opened ns e u after next r at there g opens has got keys pushed =
+      let elements = o.elements.items in
+      let same : held_trees u elements ≡ held_trees w elements = trees-still w u g elements k.held in
+      let x = held_tree u r in
+      let l = opens next.0 r got in
+      let trees-after : held_trees u after.elements.items ≡ held_trees u elements ++ x ∷ [] = ap (held_trees u) pushed ∙ map-append (held_tree u) elements (r ∷ []) in
+      let here : opened (held_trees u elements) t ≡ Some x = l.1 t at ∙ held-at u r l.0 in (
+        record {
+          before = k.before ++ subterms t;
+          begun = begun-all;
+          trees = ap (trees_of v) keys ∙ more-trees;
+          there = subst (AreThere v) (sym keys) there;
+          held = subst (AreHeld u) (sym pushed) (held-both u elements (r ∷ []) (held-still w u g elements k.held) (l.0, tt));
+          opens = subst (λ zs. Made v u (opened zs) after.made) (sym trees-after)
+              (λ n b q. let m = opens n b q in
+              (m.0, λ z is. opened-more (held_trees u elements) (x ∷ []) z (subst IsSome (sym (m.1 z is)) m.0) ∙ m.1 z is));
+          has = subst (λ ns. HasAll v after.made (trees_of v ns)) (sym keys) (all-made ns e after.made has);
+        },
+        (x, ap (λ zs. opened zs t) (sym same) ∙ here, trees-after ∙ ap (λ z. z ++ x ∷ []) same),
+      )
 
 -- ---- all elements
 
@@ -372,62 +324,57 @@ drop-whole [] (suc j) le = refl
 drop-whole (x ∷ xs) zero le = absurd (omega arith)
 drop-whole (x ∷ xs) (suc j) le = drop-whole xs j (omega arith)
 
-module _ {S : Type 0} where
-  pub record OpeningElements (w : Store) (all : List Term) (i : ℕ) (v : Store) (parts : List ℕ) (made : IndexMap ℕ Term S) (elements : List Term) : Type 0 where
-    pub grows : Grows w v
-    pub here : IsOpening v parts made elements
-    pub opened-is : all_opened [] (held_trees w all) ≡ all_opened (held_trees v elements) (held_trees w (drop i all))
-    pub broken-is : broken_from [] (from_list (held_trees w all)) ≡ broken_from (held_trees v elements) (from_list (held_trees w (drop i all)))
+pub record OpeningElements (v w : Store) (all : List Term) (i : ℕ) (u : Store) (o : Opening) : Type 0 where
+  pub grows : Grows w u
+  pub here : IsOpening v u o
+  pub opened-is : all_opened [] (held_trees v all) ≡ all_opened (held_trees u o.elements.items) (held_trees v (drop i all))
+  pub broken-is : broken_from [] (from_list (held_trees v all)) ≡ broken_from (held_trees u o.elements.items) (from_list (held_trees v (drop i all)))
 
-  pub elements-begin : (w : Store) (all : List Term) (parts : List ℕ) (made : IndexMap ℕ Term S) (elements : List Term) → parts ≡ [] → made.entries ≡ []
-      → elements ≡ [] → OpeningElements w all 0 w parts made elements
-  elements-begin w all parts made elements e f h = record {
-    grows = Grows-refl w;
-    here = record {
-      before = [];
-      begun = begun-none;
-      trees = ap (trees_of w) e;
-      there = subst (AreThere w) (sym e) tt;
-      held = subst (AreHeld w) (sym h) tt;
-      opens = λ n r got. absurd (let q : None ≡ Some r = rw f at got in cc q);
-      has = subst (λ ns. HasAll w made (trees_of w ns)) (sym e) tt;
-    };
-    opened-is = ap (λ rs. all_opened (held_trees w rs) (held_trees w all)) (sym h);
-    broken-is = ap (λ rs. broken_from (held_trees w rs) (from_list (held_trees w all))) (sym h);
-  }
+pub elements-begin : (v w : Store) (all : List Term) (o : Opening) → o.parts.keys ≡ [] → o.made.entries ≡ []
+    → o.elements.items ≡ [] → OpeningElements v w all 0 w o
+elements-begin v w all o e f h = record {
+  grows = Grows-refl w;
+  here = record {
+    before = [];
+    begun = begun-none;
+    trees = ap (trees_of v) e;
+    there = subst (AreThere v) (sym e) tt;
+    held = subst (AreHeld w) (sym h) tt;
+    opens = none-made v w (opened (held_trees w o.elements.items)) o.made f;
+    has = subst (λ ns. HasAll v o.made (trees_of v ns)) (sym e) tt;
+  };
+  opened-is = ap (λ rs. all_opened (held_trees w rs) (held_trees v all)) (sym h);
+  broken-is = ap (λ rs. broken_from (held_trees w rs) (from_list (held_trees v all))) (sym h);
+}
 
-  pub elements-next : (w : Store) (all : List Term) (i : ℕ) (d : Term) (v u : Store) (parts after : List ℕ) (made now : IndexMap ℕ Term S) (elements more-elements : List Term)
-      → i < length all → AreHeld w all → OpeningElements w all i v parts made elements → Grows v u → IsOpening u after now more-elements
-      → OpensOne (held_trees v elements) (held_tree v (get_or all i d)) (held_trees u more-elements)
-      → OpeningElements w all (i + 1) u after now more-elements
-  elements-next w all i d v u parts after made now elements more-elements lt held k g here (x, is, longer) =
-      let es = held_trees v elements in
-      let r = get_or all i d in
-      let t = held_tree w r in
-      let rest = held_trees w (drop (i + 1) all) in
-      let at : opened es t ≡ Some x = ap (opened es) (sym (held-grown w v k.grows r (held-one w all i d held lt))) ∙ is in
-      record {
-        grows = Grows-trans k.grows g;
-        here = here;
-        opened-is = k.opened-is ∙ ap (all_opened es) (rest-is w all i d lt) ∙ opened-first es t x rest at ∙ ap (λ zs. all_opened zs rest) (sym longer);
-        broken-is = k.broken-is ∙ ap (λ ts. broken_from es (from_list ts)) (rest-is w all i d lt) ∙ unbroken-first es t x rest at
-            ∙ ap (λ zs. broken_from zs (from_list rest)) (sym longer);
-      }
+pub elements-next : (v w : Store) (all : List Term) (i : ℕ) (d : Term) (m u : Store) (o after : Opening)
+    → i < length all → OpeningElements v w all i m o → Grows m u → IsOpening v u after
+    → OpensOne (held_trees m o.elements.items) (held_tree v (get_or all i d)) (held_trees u after.elements.items)
+    → OpeningElements v w all (i + 1) u after
+elements-next v w all i d m u o after lt k g here (x, at, longer) =
+    let es = held_trees m o.elements.items in
+    let t = held_tree v (get_or all i d) in
+    let rest = held_trees v (drop (i + 1) all) in
+    record {
+      grows = Grows-trans k.grows g;
+      here = here;
+      opened-is = k.opened-is ∙ ap (all_opened es) (rest-is v all i d lt) ∙ opened-first es t x rest at ∙ ap (λ zs. all_opened zs rest) (sym longer);
+      broken-is = k.broken-is ∙ ap (λ ts. broken_from es (from_list ts)) (rest-is v all i d lt) ∙ unbroken-first es t x rest at
+          ∙ ap (λ zs. broken_from zs (from_list rest)) (sym longer);
+    }
 
-  pub elements-broken : (w : Store) (all : List Term) (i : ℕ) (d : Term) (v : Store) (parts : List ℕ) (made : IndexMap ℕ Term S) (elements : List Term) (n : ℕ)
-      → i < length all → AreHeld w all → OpeningElements w all i v parts made elements
-      → (n ≡ length elements) × (opened (held_trees v elements) (held_tree v (get_or all i d)) ≡ None)
-      → broken_from [] (from_list (held_trees w all)) ≡ Some n
-  elements-broken w all i d v parts made elements n lt held k (count, e) =
-      let es = held_trees v elements in
-      let r = get_or all i d in
-      let t = held_tree w r in
-      let at : opened es t ≡ None = ap (opened es) (sym (held-grown w v k.grows r (held-one w all i d held lt))) ∙ e in
-      let len : length es ≡ n = length-map elements (held_tree v) ∙ sym count in
-      k.broken-is ∙ ap (λ ts. broken_from es (from_list ts)) (rest-is w all i d lt) ∙ broken-first es t (held_trees w (drop (i + 1) all)) at
-      ∙ ap (λ m. let o : Option ℕ = Some m in o) len
+pub elements-broken : (v w : Store) (all : List Term) (i : ℕ) (d : Term) (m : Store) (o : Opening) (n : ℕ)
+    → i < length all → OpeningElements v w all i m o
+    → (n ≡ length o.elements.items) × (opened (held_trees m o.elements.items) (held_tree v (get_or all i d)) ≡ None)
+    → broken_from [] (from_list (held_trees v all)) ≡ Some n
+elements-broken v w all i d m o n lt k (count, at) =
+    let es = held_trees m o.elements.items in
+    let t = held_tree v (get_or all i d) in
+    let len : length es ≡ n = length-map o.elements.items (held_tree m) ∙ sym count in
+    k.broken-is ∙ ap (λ ts. broken_from es (from_list ts)) (rest-is v all i d lt) ∙ broken-first es t (held_trees v (drop (i + 1) all)) at
+    ∙ ap (λ m. let o : Option ℕ = Some m in o) len
 
-  pub elements-end : (w : Store) (all : List Term) (i : ℕ) (v : Store) (parts : List ℕ) (made : IndexMap ℕ Term S) (elements : List Term) → length all ≤ i
-      → OpeningElements w all i v parts made elements → all_opened [] (held_trees w all) ≡ Some (held_trees v elements)
-  elements-end w all i v parts made elements le k =
-      k.opened-is ∙ ap (λ rs. all_opened (held_trees v elements) (held_trees w rs)) (drop-whole all i le)
+pub elements-end : (v w : Store) (all : List Term) (i : ℕ) (u : Store) (o : Opening) → length all ≤ i
+    → OpeningElements v w all i u o → all_opened [] (held_trees v all) ≡ Some (held_trees u o.elements.items)
+elements-end v w all i u o le k =
+    k.opened-is ∙ ap (λ rs. all_opened (held_trees u o.elements.items) (held_trees v rs)) (drop-whole all i le)

@@ -1,4 +1,5 @@
 pub mod Table
 pub mod Opened
+pub mod Errors
 pub mod Laws
 pub mod Inner

@@ -1,157 +1,204 @@
-//! Terms of whose parts others were made.
+//! Terms that are made, in one store, of the parts of a term of another store.
 
-ghost use Rattle.std.specs.Prelude.{◌≡◌, ◌∷◌, [], List, Option, Some, IfErr, IfOk, IsSome};
-ghost use Rattle.std.specs.Prelude.{None, length};
-ghost use Rattle.rx_term.specs.Tree.{Tree, Trees, annotated, annotations, items_of, list_of};
-ghost use Rattle.rx_term.specs.Tree.{count_of, none, to_list};
-ghost use Rattle.rx_term.specs.Store.{tree_at};
-ghost use Rattle.rx_term.specs.Walks.{AllHeld, HaveTrees, held_tree};
+ghost use Rattle.std.specs.Prelude.{◌≡◌, IfErr, IfOk, IsSome, Some, nat_eq};
+ghost use Rattle.std.specs.Option.{option_map};
+ghost use Rattle.indexmap.specs.IndexMap.{get};
+ghost use Rattle.rx_term.specs.Tree.{
+  Hole,
+  Trees,
+  annotated,
+  annotations,
+  count_of,
+  items_of,
+  list_of,
+  none,
+  to_list,
+};
+ghost use Rattle.rx_term.specs.Store.{signature_of, tree_at};
 ghost use Rattle.rx_term.specs.Steps.{Grows, IsBankRefusal};
+ghost use Rattle.rx_term.specs.Walks.{HaveTrees, held_tree};
+ghost use Rattle.rx_table.specs.Opened.{both};
+ghost use Rattle.rx_table.specs.Table.{direct};
 ghost use Rattle.rx_table.specs.Inner.Walk.{IsList, body_items};
-ghost use Rattle.rx_table.specs.Inner.Made.{HasAll, HasOne, IsBodyOrHole, IsEach, IsHeldBody};
-ghost use Rattle.rx_table.specs.Inner.Made.{IsHole};
-ghost use Rattle.rx_table.specs.Inner.Made.{Made};
+ghost use Rattle.rx_table.specs.Inner.Made.{AreMade, Gives, HasAll, IsBare, IsListOf, content_of};
+ghost use Rattle.rx_table.specs.Inner.Made.{each, remade};
 
 use crate::walk::push_items;
 use indexmap::IndexMap;
-use rx_term::{BankFault, Kind, Term, TermBank};
-use std::alloc::Global;
+use rx_term::{BankFault, Kind, Symbol, Term, TermBank};
+
+/// What a placeholder has in it.
+#[derive(Clone, Copy, Drop)]
+pub(crate) enum Content {
+    /// The term that was made of its inner tree.
+    Bare,
+    /// The list of that term, as in a table.
+    Listed,
+}
 
 /// Returns the term that was made of a tree.
-pub(crate) fn made_of<B: TermBank>(bank: &B, made: &IndexMap<u32, Term>, t: Term) -> Term
-    requires held { IsSome (tree_at (B.store bank.now) t) }
-    requires has { HasOne (B.store bank.now) made.now (held_tree (B.store bank.now) t) }
-    ensures held { IsSome (tree_at (B.store bank.now) result) }
-    ensures made { (f : Tree → Option Tree) → Made (B.store bank.now) f made.now
-        → f (held_tree (B.store bank.now) t) ≡ tree_at (B.store bank.now) result }
+pub(crate) fn made_of(made: &IndexMap<u32, Term>, t: Term) -> Term
+    requires { IsSome (get nat_eq made.now t.0) }
+    ensures { get nat_eq made.now t.0 ≡ Some result }
 {
     *made.get(&t.0).unwrap()
 }
 
 /// Makes the list of these terms, which are removed.
-pub(crate) fn make_list<B: TermBank>(bank: &mut B, items: &mut Vec<Term>) -> Result<Term, BankFault>
-    requires { (us : Trees) × HaveTrees (B.store bank.old) items.old.items (to_list us) }
+pub(crate) fn make_list<C: TermBank>(items: &mut Vec<Term>, to: &mut C) -> Result<Term, BankFault>
+    requires { (us : Trees) × HaveTrees (C.store to.old) items.old.items (to_list us) }
     ensures list { IfOk result (λ r. (us : Trees)
-        → HaveTrees (B.store bank.old) items.old.items (to_list us)
-        → tree_at (B.store bank.new) r ≡ Some (list_of us)) }
-    ensures refused { IfErr result (IsBankRefusal (B.store bank.new)) }
-    ensures grows { Grows (B.store bank.old) (B.store bank.new) }
+        → HaveTrees (C.store to.old) items.old.items (to_list us)
+        → tree_at (C.store to.new) r ≡ Some (list_of us)) }
+    ensures refused { IfErr result (IsBankRefusal (C.store to.new)) }
+    ensures grows { Grows (C.store to.old) (C.store to.new) }
 {
-    let mut list = bank.nil()?;
+    let mut list = to.nil()?;
     while let Some(item) = items.pop() {
-        list = bank.cons(item, list)?;
-    }
-    Ok(list)
-}
-
-/// Makes the list of the terms that were made of these trees, which are removed.
-fn list_made<B: TermBank>(
-    bank: &mut B,
-    items: &mut Vec<Term>,
-    made: &IndexMap<u32, Term>,
-) -> Result<Term, BankFault>
-    requires { (ts : List Tree) × HaveTrees (B.store bank.old) items.old.items ts
-        × HasAll (B.store bank.old) made.now ts }
-    ensures list { IfOk result (λ r. (f : Tree → Option Tree) (ts : List Tree)
-        → Made (B.store bank.old) f made.now → HaveTrees (B.store bank.old) items.old.items ts
-        → (us : Trees) × IsEach f ts us × (tree_at (B.store bank.new) r ≡ Some (list_of us))) }
-    ensures held { IfOk result (λ r. (ts : List Tree)
-        → HaveTrees (B.store bank.old) items.old.items ts
-        → (us : Trees) × (count_of us ≡ length ts)
-        × (tree_at (B.store bank.new) r ≡ Some (list_of us))) }
-    ensures refused { IfErr result (IsBankRefusal (B.store bank.new)) }
-    ensures grows { Grows (B.store bank.old) (B.store bank.new) }
-{
-    let mut list = bank.nil()?;
-    while let Some(item) = items.pop() {
-        let head = made_of(bank, made, item);
-        list = bank.cons(head, list)?;
+        list = to.cons(item, list)?;
     }
     Ok(list)
 }
 
 /// Makes the list of the terms that were made of the items of a list.
-pub(crate) fn made_list<B: TermBank>(
-    alloc: Global,
-    bank: &mut B,
+fn made_list<B: TermBank, C: TermBank>(
+    from: &B,
     list: Term,
     made: &IndexMap<u32, Term>,
+    to: &mut C,
 ) -> Result<Term, BankFault>
-    requires list { IsList (B.store bank.old) list }
-    requires made { HasAll (B.store bank.old) made.now
-        (to_list (items_of (held_tree (B.store bank.old) list))) }
-    ensures list { IfOk result (λ r. (f : Tree → Option Tree) → Made (B.store bank.old) f made.now
-        → (us : Trees) × IsEach f (to_list (items_of (held_tree (B.store bank.old) list))) us
-        × (tree_at (B.store bank.new) r ≡ Some (list_of us))) }
-    ensures held { IfOk result (λ r. (us : Trees)
-        × (count_of us ≡ length (to_list (items_of (held_tree (B.store bank.old) list))))
-        × (tree_at (B.store bank.new) r ≡ Some (list_of us))) }
-    ensures refused { IfErr result (IsBankRefusal (B.store bank.new)) }
-    ensures grows { Grows (B.store bank.old) (B.store bank.new) }
+    requires list { IsList (B.store from.now) list }
+    requires has { HasAll (B.store from.now) made.now
+        (to_list (items_of (held_tree (B.store from.now) list))) }
+    requires made { AreMade (C.store to.old) made.now }
+    ensures list { IfOk result (Gives (B.store from.now) (C.store to.old) made.now (C.store to.new)
+        (λ f. option_map list_of (each f (items_of (held_tree (B.store from.now) list))))) }
+    ensures counted { IfOk result (IsListOf (C.store to.new)
+        (count_of (items_of (held_tree (B.store from.now) list)))) }
+    ensures refused { IfErr result (IsBankRefusal (C.store to.new)) }
+    ensures grows { Grows (C.store to.old) (C.store to.new) }
 {
-    let mut items = Vec::new(alloc);
-    if push_items(bank, list, &mut items).is_err() {
+    let mut items = Vec::new(*made.allocator());
+    if push_items(from, list, &mut items).is_err() {
         return Err(BankFault::Memory);
     }
-    list_made(bank, &mut items, made)
+    let mut new = to.nil()?;
+    while let Some(item) = items.pop() {
+        new = to.cons(made_of(made, item), new)?;
+    }
+    Ok(new)
 }
 
-/// Makes a tree without its annotations of the terms that were made of its items or arguments.
-/// Returns `None` for a placeholder.
-pub(crate) fn made_body<B: TermBank>(
-    alloc: Global,
-    bank: &mut B,
-    t: Term,
-    made: &IndexMap<u32, Term>,
-) -> Result<Option<Term>, BankFault>
-    requires held { IsSome (tree_at (B.store bank.old) t) }
-    requires made { HasAll (B.store bank.old) made.now
-        (body_items (held_tree (B.store bank.old) t)) }
-    ensures body { IfOk result (λ o. (f : Tree → Option Tree) → Made (B.store bank.old) f made.now
-        → IsBodyOrHole f (B.store bank.new) (held_tree (B.store bank.old) t) o) }
-    ensures held { IfOk result (λ o. IsHeldBody (B.store bank.new) o) }
-    ensures hole { IfOk result (λ o. o ≡ None → IsHole (held_tree (B.store bank.old) t)) }
-    ensures refused { IfErr result (IsBankRefusal (B.store bank.new)) }
-    ensures grows { Grows (B.store bank.old) (B.store bank.new) }
+/// Returns the symbol of the store `to` that has the signature of a symbol of the store `from`.
+fn symbol_in<B: TermBank, C: TermBank>(
+    from: &B,
+    symbol: Symbol,
+    to: &mut C,
+) -> Result<Symbol, BankFault>
+    requires { IsSome (signature_of (B.store from.now) symbol) }
+    ensures symbol { IfOk result (λ s. signature_of (C.store to.new) s
+        ≡ signature_of (B.store from.now) symbol) }
+    ensures refused { IfErr result (IsBankRefusal (C.store to.new)) }
+    ensures grows { Grows (C.store to.old) (C.store to.new) }
 {
-    match bank.kind(t) {
-        Kind::Int(value) => Ok(Some(bank.int(value)?)),
-        Kind::Nil => Ok(Some(bank.nil()?)),
-        Kind::Cons => Ok(Some(made_list(alloc, bank, t, made)?)),
-        Kind::Appl(symbol) => {
-            let args = made_list(alloc, bank, bank.args(t), made)?;
-            Ok(Some(bank.appl(symbol, args)?))
+    let name = from.name_of(symbol);
+    to.symbol(name, from.quoted_of(symbol), from.arity_of(symbol))
+}
+
+/// Makes a placeholder of a term.
+fn made_hole<C: TermBank>(inner: Term, content: Content, to: &mut C) -> Result<Term, BankFault>
+    requires { IsSome (tree_at (C.store to.old) inner) }
+    ensures hole { IfOk result (λ r. tree_at (C.store to.new) r
+        ≡ option_map (λ t. Hole (content_of content t) none) (tree_at (C.store to.old) inner)) }
+    ensures refused { IfErr result (IsBankRefusal (C.store to.new)) }
+    ensures grows { Grows (C.store to.old) (C.store to.new) }
+{
+    match content {
+        Content::Bare => to.hole(inner),
+        Content::Listed => {
+            let nil = to.nil()?;
+            let list = to.cons(inner, nil)?;
+            to.hole(list)
         }
-        Kind::Hole => Ok(None),
+    }
+}
+
+/// Makes a tree without its annotations of the terms that were made of its items, its arguments or
+/// its inner tree.
+fn made_body<B: TermBank, C: TermBank>(
+    from: &B,
+    t: Term,
+    content: Content,
+    made: &IndexMap<u32, Term>,
+    to: &mut C,
+) -> Result<Term, BankFault>
+    requires held { IsSome (tree_at (B.store from.now) t) }
+    requires has { HasAll (B.store from.now) made.now
+        (body_items (held_tree (B.store from.now) t)) }
+    requires made { AreMade (C.store to.old) made.now }
+    ensures body { IfOk result (Gives (B.store from.now) (C.store to.old) made.now (C.store to.new)
+        (λ f. remade content f (annotated (held_tree (B.store from.now) t) none))) }
+    ensures bare { IfOk result (IsBare (C.store to.new)) }
+    ensures refused { IfErr result (IsBankRefusal (C.store to.new)) }
+    ensures grows { Grows (C.store to.old) (C.store to.new) }
+{
+    match from.kind(t) {
+        Kind::Int(value) => to.int(value),
+        Kind::Nil => to.nil(),
+        Kind::Cons => made_list(from, t, made, to),
+        Kind::Appl(symbol) => {
+            let args = made_list(from, from.args(t), made, to)?;
+            let symbol = symbol_in(from, symbol, to)?;
+            to.appl(symbol, args)
+        }
+        Kind::Hole => made_hole(made_of(made, from.inner(t)), content, to),
     }
 }
 
 /// Annotates `body` with the terms that were made of the annotations of `t`.
-pub(crate) fn annotate<B: TermBank>(
-    alloc: Global,
-    bank: &mut B,
+pub(crate) fn annotate<B: TermBank, C: TermBank>(
+    from: &B,
     t: Term,
     body: Term,
     made: &IndexMap<u32, Term>,
+    to: &mut C,
 ) -> Result<Term, BankFault>
-    requires held { IsSome (tree_at (B.store bank.old) t) }
-    requires body { IsSome (tree_at (B.store bank.old) body) }
-    requires made { HasAll (B.store bank.old) made.now
-        (to_list (annotations (held_tree (B.store bank.old) t))) }
-    ensures annotated { IfOk result (λ r. (f : Tree → Option Tree) (v : Tree)
-        → Made (B.store bank.old) f made.now → tree_at (B.store bank.old) body ≡ Some v
-        → annotations v ≡ none
-        → (us : Trees) × IsEach f (to_list (annotations (held_tree (B.store bank.old) t))) us
-        × (tree_at (B.store bank.new) r ≡ Some (annotated v us))) }
-    ensures held { IfOk result (λ r. IsSome (tree_at (B.store bank.new) r)) }
-    ensures refused { IfErr result (IsBankRefusal (B.store bank.new)) }
-    ensures grows { Grows (B.store bank.old) (B.store bank.new) }
+    requires held { IsSome (tree_at (B.store from.now) t) }
+    requires body { IsBare (C.store to.old) body }
+    requires has { HasAll (B.store from.now) made.now
+        (to_list (annotations (held_tree (B.store from.now) t))) }
+    requires made { AreMade (C.store to.old) made.now }
+    ensures annotated { IfOk result (Gives (B.store from.now) (C.store to.old) made.now
+        (C.store to.new) (λ f. both annotated (tree_at (C.store to.old) body)
+        (each f (annotations (held_tree (B.store from.now) t))))) }
+    ensures refused { IfErr result (IsBankRefusal (C.store to.new)) }
+    ensures grows { Grows (C.store to.old) (C.store to.new) }
 {
-    match bank.anns(t) {
+    match from.anns(t) {
         None => Ok(body),
         Some(anns) => {
-            let list = made_list(alloc, bank, anns, made)?;
-            Ok(bank.annotated(body, list)?)
+            let list = made_list(from, anns, made, to)?;
+            to.annotated(body, list)
         }
     }
+}
+
+/// Makes a tree of the terms that were made of the trees one step inside of it.
+pub(crate) fn make_part<B: TermBank, C: TermBank>(
+    from: &B,
+    t: Term,
+    content: Content,
+    made: &IndexMap<u32, Term>,
+    to: &mut C,
+) -> Result<Term, BankFault>
+    requires held { IsSome (tree_at (B.store from.now) t) }
+    requires has { HasAll (B.store from.now) made.now (direct (held_tree (B.store from.now) t)) }
+    requires made { AreMade (C.store to.old) made.now }
+    ensures part { IfOk result (Gives (B.store from.now) (C.store to.old) made.now (C.store to.new)
+        (λ f. remade content f (held_tree (B.store from.now) t))) }
+    ensures refused { IfErr result (IsBankRefusal (C.store to.new)) }
+    ensures grows { Grows (C.store to.old) (C.store to.new) }
+{
+    let body = made_body(from, t, content, made, to)?;
+    annotate(from, t, body, made, to)
 }

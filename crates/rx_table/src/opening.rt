@@ -8,15 +8,16 @@ ghost use Rattle.rx_term.specs.Steps.{Grows, IsBankRefusal};
 ghost use Rattle.rx_term.specs.Walks.{HaveTrees, held_tree, held_trees};
 ghost use Rattle.rx_table.specs.Opened.{broken_by_table, broken_element, broken_from, element};
 ghost use Rattle.rx_table.specs.Opened.{opened, tree_of_table};
+ghost use Rattle.rx_table.specs.Errors.{IsOfOpening};
 ghost use Rattle.rx_table.specs.Inner.Faults.{IsOpenFault};
 ghost use Rattle.rx_table.specs.Inner.Walk.{AreThere, trees_of};
-ghost use Rattle.rx_table.specs.Inner.Made.{HasAll, IsHole};
-ghost use Rattle.rx_table.specs.Inner.Opening.{AreHeld, HasBroken, HasInside, IsNext, IsOpened};
-ghost use Rattle.rx_table.specs.Inner.Opening.{IsOpening, Opens, OpensOne, all_opened};
+ghost use Rattle.rx_table.specs.Inner.Made.{HasAll};
+ghost use Rattle.rx_table.specs.Inner.Opening.{AreHeld, HasBroken, HasInside, IsHole, IsNext};
+ghost use Rattle.rx_table.specs.Inner.Opening.{IsOpened, IsOpening, Opens, OpensOne, all_opened};
 ghost use Rattle.rx_table.specs.Inner.Opening.{elements_of, inside_of};
 
-use crate::faults::OpenFault;
-use crate::made::{annotate, made_body, made_of};
+use crate::faults::TableFault;
+use crate::made::{Content, annotate, made_of, make_part};
 use crate::walk::{collect, push_items};
 use indexmap::{IndexMap, IndexSet};
 use rx_term::{BankFault, Kind, Term, TermBank};
@@ -68,30 +69,29 @@ fn element(elements: &[Term], number: i32) -> Option<Term>
 
 /// Opens a placeholder of an element. Returns `None` if it is not in its form. `elements` has the
 /// opened elements before it, and `made` each opened tree inside of it.
-fn open_hole<B: TermBank>(
-    alloc: Global,
-    bank: &mut B,
+fn open_hole<B: TermBank, C: TermBank>(
+    from: &B,
     t: Term,
     elements: &[Term],
     made: &IndexMap<u32, Term>,
+    to: &mut C,
 ) -> Result<Option<Term>, BankFault>
-    requires held { IsSome (tree_at (B.store bank.old) t) }
-    requires hole { IsHole (held_tree (B.store bank.old) t) }
-    requires elements { AreHeld (B.store bank.old) elements.now }
-    requires opens { Opens (B.store bank.old) elements.now made.now }
-    requires has { HasAll (B.store bank.old) made.now
-        (inside_of (held_tree (B.store bank.old) t)) }
-    ensures opened { IfOk result (IsOpened (held_trees (B.store bank.old) elements.now)
-        (held_tree (B.store bank.old) t) (B.store bank.new)) }
-    ensures refused { IfErr result (IsBankRefusal (B.store bank.new)) }
-    ensures grows { Grows (B.store bank.old) (B.store bank.new) }
+    requires held { IsSome (tree_at (B.store from.now) t) }
+    requires hole { IsHole (held_tree (B.store from.now) t) }
+    requires elements { AreHeld (C.store to.old) elements.now }
+    requires opens { Opens (B.store from.now) (C.store to.old) elements.now made.now }
+    requires has { HasAll (B.store from.now) made.now
+        (inside_of (held_tree (B.store from.now) t)) }
+    ensures opened { IfOk result (IsOpened (held_trees (C.store to.old) elements.now)
+        (held_tree (B.store from.now) t) (C.store to.new)) }
+    ensures refused { IfErr result (IsBankRefusal (C.store to.new)) }
+    ensures grows { Grows (C.store to.old) (C.store to.new) }
 {
-    match look_inside(bank, t) {
+    match look_inside(from, t) {
         Inside::Number(number) => Ok(element(elements, number)),
         Inside::Item(item) => {
-            let inner = made_of(bank, made, item);
-            let body = bank.hole(inner)?;
-            Ok(Some(annotate(alloc, bank, t, body, made)?))
+            let body = to.hole(made_of(made, item))?;
+            Ok(Some(annotate(from, t, body, made, to)?))
         }
         Inside::Neither => Ok(None),
     }
@@ -99,57 +99,57 @@ fn open_hole<B: TermBank>(
 
 /// Opens a part of an element. Returns `None` if it does not open. `elements` has the opened
 /// elements before it, and `made` each opened tree inside of it.
-fn open_part<B: TermBank>(
-    alloc: Global,
-    bank: &mut B,
+fn open_part<B: TermBank, C: TermBank>(
+    from: &B,
     t: Term,
     elements: &[Term],
     made: &IndexMap<u32, Term>,
+    to: &mut C,
 ) -> Result<Option<Term>, BankFault>
-    requires held { IsSome (tree_at (B.store bank.old) t) }
-    requires elements { AreHeld (B.store bank.old) elements.now }
-    requires opens { Opens (B.store bank.old) elements.now made.now }
-    requires has { HasAll (B.store bank.old) made.now
-        (inside_of (held_tree (B.store bank.old) t)) }
-    ensures opened { IfOk result (IsOpened (held_trees (B.store bank.old) elements.now)
-        (held_tree (B.store bank.old) t) (B.store bank.new)) }
-    ensures refused { IfErr result (IsBankRefusal (B.store bank.new)) }
-    ensures grows { Grows (B.store bank.old) (B.store bank.new) }
+    requires held { IsSome (tree_at (B.store from.now) t) }
+    requires elements { AreHeld (C.store to.old) elements.now }
+    requires opens { Opens (B.store from.now) (C.store to.old) elements.now made.now }
+    requires has { HasAll (B.store from.now) made.now
+        (inside_of (held_tree (B.store from.now) t)) }
+    ensures opened { IfOk result (IsOpened (held_trees (C.store to.old) elements.now)
+        (held_tree (B.store from.now) t) (C.store to.new)) }
+    ensures refused { IfErr result (IsBankRefusal (C.store to.new)) }
+    ensures grows { Grows (C.store to.old) (C.store to.new) }
 {
-    match made_body(alloc, bank, t, made)? {
-        Some(body) => Ok(Some(annotate(alloc, bank, t, body, made)?)),
-        None => open_hole(alloc, bank, t, elements, made),
+    if let Kind::Hole = from.kind(t) {
+        return open_hole(from, t, elements, made, to);
     }
+    Ok(Some(make_part(from, t, Content::Bare, made, to)?))
 }
 
 /// Opens each of the trees `parts` of an element, and adds it to `made`. Each comes after those
 /// inside of it that are not in `made`. Returns `Element` if one does not open.
-fn open_parts<B: TermBank>(
-    alloc: Global,
-    bank: &mut B,
+fn open_parts<B: TermBank, C: TermBank>(
+    from: &B,
     parts: &[u32],
     elements: &[Term],
     made: &mut IndexMap<u32, Term>,
-) -> Result<(), OpenFault>
-    requires parts { AreThere (B.store bank.old) parts.now }
-    requires elements { AreHeld (B.store bank.old) elements.now }
-    requires opens { Opens (B.store bank.old) elements.now made.old }
-    requires order { IsNext (B.store bank.old) made.old (trees_of (B.store bank.old) parts.now) }
-    ensures opens { OnOk result (Opens (B.store bank.new) elements.now made.new) }
-    ensures has { OnOk result ((before : List Tree) → HasAll (B.store bank.old) made.old before
-        → HasAll (B.store bank.new) made.new (before ++ trees_of (B.store bank.old) parts.now)) }
-    ensures refused { IfErr result (IsOpenFault (B.store bank.new)
-        (λ n. (n ≡ length elements.now) × HasBroken (held_trees (B.store bank.old) elements.now)
-        (trees_of (B.store bank.old) parts.now))) }
-    ensures grows { Grows (B.store bank.old) (B.store bank.new) }
+    to: &mut C,
+) -> Result<(), TableFault>
+    requires parts { AreThere (B.store from.now) parts.now }
+    requires elements { AreHeld (C.store to.old) elements.now }
+    requires opens { Opens (B.store from.now) (C.store to.old) elements.now made.old }
+    requires order { IsNext (B.store from.now) made.old (trees_of (B.store from.now) parts.now) }
+    ensures opens { OnOk result (Opens (B.store from.now) (C.store to.new) elements.now made.new) }
+    ensures has { OnOk result ((before : List Tree) → HasAll (B.store from.now) made.old before
+        → HasAll (B.store from.now) made.new (before ++ trees_of (B.store from.now) parts.now)) }
+    ensures refused { IfErr result (IsOpenFault (C.store to.new)
+        (λ n. (n ≡ length elements.now) × HasBroken (held_trees (C.store to.old) elements.now)
+        (trees_of (B.store from.now) parts.now))) }
+    ensures grows { Grows (C.store to.old) (C.store to.new) }
 {
     for part in parts {
-        match open_part(alloc, bank, Term(*part), elements, made)? {
+        match open_part(from, Term(*part), elements, made, to)? {
             Some(opened) => {
                 made.insert(*part, opened)?;
             }
             None => {
-                return Err(OpenFault::Element {
+                return Err(TableFault::Element {
                     number: elements.len(),
                 });
             }
@@ -166,57 +166,69 @@ fn parts_from(parts: &IndexSet<u32>, first: usize) -> &[u32]
     &parts.as_slice()[first..]
 }
 
-/// Opens an element, and adds it to `elements`. `parts` has the parts of the elements before it, and
-/// `made` each of them opened.
-fn open_element<B: TermBank>(
-    bank: &mut B,
+/// Elements of a table that were opened.
+#[derive(Drop)]
+struct Opening {
+    /// Their parts.
+    parts: IndexSet<u32>,
+    /// Each of these parts opened.
+    made: IndexMap<u32, Term>,
+    /// The elements opened.
+    elements: Vec<Term>,
+}
+
+/// Opens the next element.
+fn open_element<B: TermBank, C: TermBank>(
+    from: &B,
     next: Term,
-    parts: &mut IndexSet<u32>,
-    made: &mut IndexMap<u32, Term>,
-    elements: &mut Vec<Term>,
-) -> Result<(), OpenFault>
-    requires held { IsSome (tree_at (B.store bank.old) next) }
-    requires opening { IsOpening (B.store bank.old) parts.old.keys made.old elements.old.items }
-    ensures opening { OnOk result
-        (IsOpening (B.store bank.new) parts.new.keys made.new elements.new.items) }
-    ensures opened { OnOk result (OpensOne (held_trees (B.store bank.old) elements.old.items)
-        (held_tree (B.store bank.old) next) (held_trees (B.store bank.new) elements.new.items)) }
-    ensures refused { IfErr result (IsOpenFault (B.store bank.new)
-        (λ n. (n ≡ length elements.old.items)
-        × (opened (held_trees (B.store bank.old) elements.old.items)
-        (held_tree (B.store bank.old) next) ≡ None))) }
-    ensures grows { Grows (B.store bank.old) (B.store bank.new) }
+    opening: &mut Opening,
+    to: &mut C,
+) -> Result<(), TableFault>
+    requires held { IsSome (tree_at (B.store from.now) next) }
+    requires opening { IsOpening (B.store from.now) (C.store to.old) opening.old }
+    ensures opening { OnOk result (IsOpening (B.store from.now) (C.store to.new) opening.new) }
+    ensures opened { OnOk result (OpensOne (held_trees (C.store to.old) opening.old.elements.items)
+        (held_tree (B.store from.now) next)
+        (held_trees (C.store to.new) opening.new.elements.items)) }
+    ensures refused { IfErr result (IsOpenFault (C.store to.new)
+        (λ n. (n ≡ length opening.old.elements.items)
+        × (opened (held_trees (C.store to.old) opening.old.elements.items)
+        (held_tree (B.store from.now) next) ≡ None))) }
+    ensures grows { Grows (C.store to.old) (C.store to.new) }
 {
-    let alloc = *elements.allocator();
-    let first = parts.len();
-    collect(bank, next, parts)?;
-    open_parts(alloc, bank, parts_from(parts, first), elements, made)?;
-    elements.push(made_of(bank, made, next))?;
+    let first = opening.parts.len();
+    collect(from, next, &mut opening.parts)?;
+    let parts = parts_from(&opening.parts, first);
+    open_parts(from, parts, &opening.elements, &mut opening.made, to)?;
+    opening.elements.push(made_of(&opening.made, next))?;
     Ok(())
 }
 
 /// Opens the elements of a table. Returns `Element` with the number of the first that does not open.
-fn open_elements<B: TermBank>(
+fn open_elements<B: TermBank, C: TermBank>(
     alloc: Global,
-    bank: &mut B,
+    from: &B,
     elements: &[Term],
-) -> Result<Vec<Term>, OpenFault>
-    requires { AreHeld (B.store bank.old) elements.now }
-    ensures held { IfOk result (λ opened. AreHeld (B.store bank.new) opened.items) }
-    ensures opened { IfOk result (λ opened. all_opened []
-        (held_trees (B.store bank.old) elements.now)
-        ≡ Some (held_trees (B.store bank.new) opened.items)) }
-    ensures refused { IfErr result (IsOpenFault (B.store bank.new)
-        (λ n. broken_from [] (from_list (held_trees (B.store bank.old) elements.now)) ≡ Some n)) }
-    ensures grows { Grows (B.store bank.old) (B.store bank.new) }
+    to: &mut C,
+) -> Result<Opening, TableFault>
+    requires { AreHeld (B.store from.now) elements.now }
+    ensures held { IfOk result (λ opening. AreHeld (C.store to.new) opening.elements.items) }
+    ensures opened { IfOk result (λ opening. all_opened []
+        (held_trees (B.store from.now) elements.now)
+        ≡ Some (held_trees (C.store to.new) opening.elements.items)) }
+    ensures refused { IfErr result (IsOpenFault (C.store to.new)
+        (λ n. broken_from [] (from_list (held_trees (B.store from.now) elements.now)) ≡ Some n)) }
+    ensures grows { Grows (C.store to.old) (C.store to.new) }
 {
-    let mut parts = IndexSet::new(alloc);
-    let mut made = IndexMap::new(alloc);
-    let mut opened = Vec::new(alloc);
+    let mut opening = Opening {
+        parts: IndexSet::new(alloc),
+        made: IndexMap::new(alloc),
+        elements: Vec::new(alloc),
+    };
     for next in elements {
-        open_element(bank, *next, &mut parts, &mut made, &mut opened)?;
+        open_element(from, *next, &mut opening, to)?;
     }
-    Ok(opened)
+    Ok(opening)
 }
 
 /// Returns the elements of a table. Returns none if the term is not a table.
@@ -234,29 +246,36 @@ fn elements_of<B: TermBank>(alloc: Global, bank: &B, t: Term) -> Result<Vec<Term
     Ok(elements)
 }
 
-/// Makes the term of a table. `NotTable` is returned if the term is not a list without annotations
-/// that has an element, and `Element` with the number of the first element that has a placeholder
-/// of another form; `Memory` if an allocation failed, and `Full` if the store is full. Only adds
-/// terms. Takes expected time in proportion to the cells of the table, and not of the term, where
-/// lists that have a tail in common count each by itself.
-pub fn open_table<B: TermBank>(alloc: Global, bank: &mut B, t: Term) -> Result<Term, OpenFault>
-    requires { IsSome (tree_at (B.store bank.old) t) }
-    ensures held { IfOk result (λ r. IsSome (tree_at (B.store bank.new) r)) }
-    ensures opened { IfOk result (λ r. tree_at (B.store bank.new) r
-        ≡ tree_of_table (held_tree (B.store bank.old) t)) }
-    ensures not_table { IsErrOf result OpenFault.NotTable
-        → broken_by_table (held_tree (B.store bank.old) t) ≡ Some 1 }
-    ensures rule { (n : ℕ) → IsErrOf result (OpenFault.Element n)
-        → broken_by_table (held_tree (B.store bank.old) t) ≡ Some 2 }
-    ensures element { (n : ℕ) → IsErrOf result (OpenFault.Element n)
-        → broken_element (held_tree (B.store bank.old) t) ≡ Some n }
-    ensures full { IsErrOf result OpenFault.Full → cells (B.store bank.new) ≡ (B.store bank.new).cap }
-    ensures grows { Grows (B.store bank.old) (B.store bank.new) }
+/// Makes, in the store `to`, the term of a table of the store `from`. `NotTable` is returned if the
+/// table is not a list without annotations that has an element, and `Element` with the number of the
+/// first element that has a placeholder of another form; `Memory` if an allocation failed, and
+/// `Full` if the store is full. Only adds terms: at most two for each cell of the table. Takes
+/// expected time in proportion to the cells of the table, and not of the term, where lists that have
+/// a tail in common count each by itself.
+pub fn open_table<B: TermBank, C: TermBank>(
+    alloc: Global,
+    from: &B,
+    t: Term,
+    to: &mut C,
+) -> Result<Term, TableFault>
+    requires { IsSome (tree_at (B.store from.now) t) }
+    ensures held { IfOk result (λ r. IsSome (tree_at (C.store to.new) r)) }
+    ensures opened { IfOk result (λ r. tree_at (C.store to.new) r
+        ≡ tree_of_table (held_tree (B.store from.now) t)) }
+    ensures not_table { IsErrOf result TableFault.NotTable
+        → broken_by_table (held_tree (B.store from.now) t) ≡ Some 1 }
+    ensures rule { (n : ℕ) → IsErrOf result (TableFault.Element n)
+        → broken_by_table (held_tree (B.store from.now) t) ≡ Some 2 }
+    ensures element { (n : ℕ) → IsErrOf result (TableFault.Element n)
+        → broken_element (held_tree (B.store from.now) t) ≡ Some n }
+    ensures full { IsErrOf result TableFault.Full → cells (C.store to.new) ≡ (C.store to.new).cap }
+    ensures opening { IfErr result IsOfOpening }
+    ensures grows { Grows (C.store to.old) (C.store to.new) }
 {
-    let elements = elements_of(alloc, bank, t)?;
-    let mut opened = open_elements(alloc, bank, &elements)?;
-    match opened.pop() {
+    let elements = elements_of(alloc, from, t)?;
+    let mut opening = open_elements(alloc, from, &elements, to)?;
+    match opening.elements.pop() {
         Some(last) => Ok(last),
-        None => Err(OpenFault::NotTable),
+        None => Err(TableFault::NotTable),
     }
 }

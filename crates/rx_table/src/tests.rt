@@ -1,9 +1,9 @@
 //! Tables of texts.
 
-use crate::{OpenFault, make_table, open_table};
+use crate::{TableFault, copy_term, count_cells, make_table, open_table, write_table_to};
 use rx_shared::SharedBank;
 use rx_term::{Term, TermBank};
-use rx_text::{read, write};
+use rx_text::{Output, read, write};
 use std::alloc::Global;
 use std::process::Abort;
 
@@ -29,16 +29,30 @@ fn empty_bank(rt: &impl Abort, alloc: Global) -> SharedBank {
     SharedBank::new(alloc, 100_000).expect(rt, "a store")
 }
 
+/// Returns a store with terms of its own, so that its references and symbols have other numbers.
+fn other_bank(rt: &impl Abort, alloc: Global) -> SharedBank {
+    let mut bank = empty_bank(rt, alloc);
+    let t = read(alloc, b"[3,h(b,<a>{b},pair(1,f(leaf)))]", &mut bank).expect(rt, "a term");
+    assert!(rt; bank.holds(t));
+    bank
+}
+
+/// Aborts the test unless a term has this text.
+fn expect_text<B: TermBank>(rt: &impl Abort, alloc: Global, bank: &B, t: Term, wanted: &[u8]) {
+    assert!(rt; bank.holds(t));
+    let mut found = Vec::new(alloc);
+    assert!(rt; write(alloc, bank, t, &mut found).is_ok());
+    assert!(rt; found.as_slice() == wanted);
+}
+
 /// Aborts the test unless the table of a text has this text.
 fn expect_table(rt: &impl Abort, alloc: Global, text: &[u8], wanted: &[u8]) {
     let mut bank = empty_bank(rt, alloc);
     let t = read(alloc, text, &mut bank).expect(rt, "a term");
     assert!(rt; bank.holds(t));
-    let table: Term = make_table(alloc, &mut bank, t).expect(rt, "a table");
-    assert!(rt; bank.holds(table));
-    let mut found = Vec::new(alloc);
-    assert!(rt; write(alloc, &bank, table, &mut found).is_ok());
-    assert!(rt; found.as_slice() == wanted);
+    let mut other = other_bank(rt, alloc);
+    let table = make_table(alloc, &bank, t, &mut other).expect(rt, "a table");
+    expect_text(rt, alloc, &other, table, wanted);
 }
 
 #[test]
@@ -127,11 +141,9 @@ fn expect_term(rt: &impl Abort, alloc: Global, text: &[u8], wanted: &[u8]) {
     let mut bank = empty_bank(rt, alloc);
     let table = read(alloc, text, &mut bank).expect(rt, "a term");
     assert!(rt; bank.holds(table));
-    let t = open_table(alloc, &mut bank, table).expect(rt, "a table");
-    assert!(rt; bank.holds(t));
-    let mut found = Vec::new(alloc);
-    assert!(rt; write(alloc, &bank, t, &mut found).is_ok());
-    assert!(rt; found.as_slice() == wanted);
+    let mut other = other_bank(rt, alloc);
+    let t = open_table(alloc, &bank, table, &mut other).expect(rt, "a table");
+    expect_text(rt, alloc, &other, t, wanted);
 }
 
 #[test]
@@ -146,25 +158,26 @@ fn terms_of_tables(rt: HostRuntime) {
 }
 
 /// Aborts the test unless reading a text as a table fails with this error.
-fn expect_fault(rt: &impl Abort, alloc: Global, text: &[u8], wanted: OpenFault) {
+fn expect_fault(rt: &impl Abort, alloc: Global, text: &[u8], wanted: TableFault) {
     let mut bank = empty_bank(rt, alloc);
     let table = read(alloc, text, &mut bank).expect(rt, "a term");
     assert!(rt; bank.holds(table));
-    assert!(rt; open_table(alloc, &mut bank, table) == Err(wanted));
+    let mut other = empty_bank(rt, alloc);
+    assert!(rt; open_table(alloc, &bank, table, &mut other) == Err(wanted));
 }
 
 #[test]
 fn broken_tables(rt: HostRuntime) {
     let alloc = rt.alloc();
     for text in &NO_TABLES {
-        expect_fault(&rt, alloc, text.as_bytes(), OpenFault::NotTable);
+        expect_fault(&rt, alloc, text.as_bytes(), TableFault::NotTable);
     }
     for (text, number) in &BROKEN {
         expect_fault(
             &rt,
             alloc,
             text.as_bytes(),
-            OpenFault::Element { number: *number },
+            TableFault::Element { number: *number },
         );
     }
 }
@@ -182,8 +195,9 @@ fn doubling_table(rt: &impl Abort, alloc: Global, first: &[u8], height: usize) -
     text
 }
 
-/// A table of 19,000 bytes is read as a tree with 2^1000 leaves, which takes three cells for each of
-/// its 1,000 nodes: the node and the list of its arguments.
+/// A table of 19,000 bytes is read as a tree with 2^1000 leaves, which has three cells for each of
+/// its 1,000 nodes, one for the leaf and one for the empty list: the node and the list of its
+/// arguments.
 #[test]
 fn a_huge_tree(rt: HostRuntime) {
     let alloc = rt.alloc();
@@ -191,25 +205,90 @@ fn a_huge_tree(rt: HostRuntime) {
     let text = doubling_table(&rt, alloc, b"leaf", 1000);
     let table = read(alloc, &text, &mut bank).expect(&rt, "a term");
     assert!(rt; bank.holds(table));
-    let before = bank.cells();
-    let t = open_table(alloc, &mut bank, table).expect(&rt, "a table");
-    assert!(rt; bank.cells().wrapping_sub(before) == 3000 && bank.holds(t));
-    let again = make_table(alloc, &mut bank, t).expect(&rt, "a table");
-    assert!(rt; bank.holds(again));
+    let mut other = empty_bank(&rt, alloc);
+    let t = open_table(alloc, &bank, table, &mut other).expect(&rt, "a table");
+    assert!(rt; other.holds(t));
+    assert!(rt; count_cells(alloc, &other, t) == Ok(3002));
     let mut found = Vec::new(alloc);
-    assert!(rt; write(alloc, &bank, again, &mut found).is_ok());
+    assert!(rt; write_table_to(alloc, &other, t, &mut Output::new(&mut found)).is_ok());
     let wanted = doubling_table(&rt, alloc, b"node(leaf,leaf)", 999);
     assert!(rt; found.as_slice() == wanted.as_slice());
 }
 
-/// A store of 9 cells has no cell to spare for a term after this table: it has the empty list, the
-/// leaf, the number, its placeholder, two lists of it, the node and two lists of elements.
+/// Making the table of a term in another store leaves the term and its store as they were.
+#[test]
+fn a_table_in_another_store(rt: HostRuntime) {
+    let alloc = rt.alloc();
+    let mut bank = empty_bank(&rt, alloc);
+    let t = read(alloc, b"g(f(pair(1,2)),f(pair(1,2)))", &mut bank).expect(&rt, "a term");
+    assert!(rt; bank.holds(t));
+    let before = bank.cells();
+    let mut other = other_bank(&rt, alloc);
+    let table = make_table(alloc, &bank, t, &mut other).expect(&rt, "a table");
+    expect_text(&rt, alloc, &other, table, b"[f(pair(1,2)),g(<0>,<0>)]");
+    assert!(rt; bank.cells() == before);
+    expect_text(&rt, alloc, &bank, t, b"g(f(pair(1,2)),f(pair(1,2)))");
+}
+
+#[test]
+fn printed_tables(rt: HostRuntime) {
+    let alloc = rt.alloc();
+    for (text, wanted) in &TABLES {
+        let mut bank = empty_bank(&rt, alloc);
+        let t = read(alloc, text.as_bytes(), &mut bank).expect(&rt, "a term");
+        assert!(rt; bank.holds(t));
+        let mut found = Vec::new(alloc);
+        assert!(rt; write_table_to(alloc, &bank, t, &mut Output::new(&mut found)).is_ok());
+        assert!(rt; found.as_slice() == wanted.as_bytes());
+    }
+}
+
+/// Copies have the text of the term, without cells of other terms.
+#[test]
+fn copies(rt: HostRuntime) {
+    let alloc = rt.alloc();
+    for (text, table) in &TABLES {
+        for copied in &[text, table] {
+            let mut bank = other_bank(&rt, alloc);
+            let t = read(alloc, copied.as_bytes(), &mut bank).expect(&rt, "a term");
+            assert!(rt; bank.holds(t));
+            let mut other = empty_bank(&rt, alloc);
+            let copy = copy_term(alloc, &bank, t, &mut other).expect(&rt, "a copy");
+            expect_text(&rt, alloc, &other, copy, copied.as_bytes());
+        }
+    }
+}
+
+/// Texts, and the number of cells of their terms. Each list has a cell for each different tail.
+const COUNTS: [(&str, u32); 7] = [
+    ("[]", 1),
+    ("7", 1),
+    ("a", 2),
+    ("<int>", 3),
+    ("[a,a]", 4),
+    ("f(pair(a,b),pair(a,b),<7>)", 12),
+    ("a{pair(1,2),pair(1,2)}", 9),
+];
+
+#[test]
+fn cells_of_terms(rt: HostRuntime) {
+    let alloc = rt.alloc();
+    for (text, wanted) in &COUNTS {
+        let mut bank = other_bank(&rt, alloc);
+        let t = read(alloc, text.as_bytes(), &mut bank).expect(&rt, "a term");
+        assert!(rt; bank.holds(t));
+        assert!(rt; count_cells(alloc, &bank, t) == Ok(*wanted));
+    }
+}
+
+/// The term of this table has five cells: the empty list, the leaf, two lists of it and the node.
 #[test]
 fn a_full_store(rt: HostRuntime) {
     let alloc = rt.alloc();
-    let mut bank = SharedBank::new(alloc, 9).expect(&rt, "a store");
+    let mut bank = empty_bank(&rt, alloc);
     let table = read(alloc, b"[leaf,node(<0>,<0>)]", &mut bank).expect(&rt, "a term");
     assert!(rt; bank.holds(table));
-    assert!(rt; bank.cells() == 9);
-    assert!(rt; open_table(alloc, &mut bank, table) == Err(OpenFault::Full));
+    let mut other = SharedBank::new(alloc, 4).expect(&rt, "a store");
+    assert!(rt; open_table(alloc, &bank, table, &mut other) == Err(TableFault::Full));
+    assert!(rt; other.cells() == 4);
 }

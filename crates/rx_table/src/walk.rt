@@ -148,3 +148,19 @@ pub(crate) fn collect<B: TermBank>(
     visits.push(Visit::Enter(t))?;
     leave_all(bank, &mut visits, left)
 }
+
+/// Returns the different subterms of a tree, each after those inside of it, from left to right.
+pub(crate) fn different_parts<B: TermBank>(
+    alloc: Global,
+    bank: &B,
+    t: Term,
+) -> Result<IndexSet<u32>, AllocError>
+    requires { IsSome (tree_at (B.store bank.now) t) }
+    ensures there { IfOk result (λ parts. AreThere (B.store bank.now) parts.keys) }
+    ensures trees { IfOk result (λ parts. trees_of (B.store bank.now) parts.keys
+        ≡ different (subterms (held_tree (B.store bank.now) t))) }
+{
+    let mut parts = IndexSet::new(alloc);
+    collect(bank, t, &mut parts)?;
+    Ok(parts)
+}

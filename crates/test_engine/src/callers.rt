@@ -79,41 +79,41 @@ fn pattern_of<B: TermBank>(rt: &impl Abort, alloc: Global, bank: &mut B, text: &
     pattern(alloc, bank, text).expect(rt, "a pattern")
 }
 
-/// Rewrites the term of a text with two patterns.
+/// A rule whose sides are patterns.
+#[derive(Drop)]
+struct Rule {
+    /// The left-hand side.
+    left: Pattern,
+    /// The right-hand side.
+    right: Pattern,
+}
+
+/// Rewrites the term of a text with a rule.
 fn rewrite_text<B: TermBank>(
     rt: &impl Abort,
     alloc: Global,
     bank: &mut B,
-    left: &Pattern,
-    right: &Pattern,
+    rule: &Rule,
     text: &[u8],
 ) -> Option<Term> {
     let t = term(rt, alloc, bank, text);
     assert!(rt; bank.holds(t));
-    rewrite(alloc, bank, left, right, t).expect(rt, "a step, or none")
+    rewrite(alloc, bank, &rule.left, &rule.right, t).expect(rt, "a step, or none")
 }
 
 /// Aborts the test unless `plus` with an integer as its second argument is rewritten to `add`, and
 /// no other `plus` is rewritten.
-fn rewrite_sums<B: TermBank>(
-    rt: &impl Abort,
-    alloc: Global,
-    bank: &mut B,
-    left: &Pattern,
-    right: &Pattern,
-) {
-    let made = rewrite_text(rt, alloc, bank, left, right, b"plus(x{at(3,7)}, 1)").expect(
-        rt, "a sum",
-    );
+fn rewrite_sums<B: TermBank>(rt: &impl Abort, alloc: Global, bank: &mut B, rule: &Rule) {
+    let made = rewrite_text(rt, alloc, bank, rule, b"plus(x{at(3,7)}, 1)").expect(rt, "a sum");
     expect_text(rt, alloc, bank, made, b"add(x{at(3,7)},[1])");
-    assert!(rt; rewrite_text(rt, alloc, bank, left, right, b"plus(1,x)").is_none());
+    assert!(rt; rewrite_text(rt, alloc, bank, rule, b"plus(1,x)").is_none());
 }
 
 /// Tests the same rewriting with the patterns of two texts.
 fn rewrite_by_texts<B: TermBank>(rt: &impl Abort, alloc: Global, bank: &mut B) {
     let left = pattern_of(rt, alloc, bank, b"plus(<term>,<int>)");
     let right = pattern_of(rt, alloc, bank, b"add(<term>,[<int>])");
-    rewrite_sums(rt, alloc, bank, &left, &right);
+    rewrite_sums(rt, alloc, bank, &Rule { left, right });
 }
 
 #[test]
@@ -182,6 +182,20 @@ fn admit_text<B: TermBank>(
     t
 }
 
+/// The text of a result, or `None` if more than `steps` steps are needed for it.
+#[derive(Clone, Copy)]
+struct Expected<'a> {
+    /// The step limit.
+    steps: u64,
+    /// The text.
+    text: Option<&'a [u8]>,
+}
+
+/// Returns the expected result within this number of steps.
+fn within(steps: u64, text: Option<&[u8]>) -> Expected<'_> {
+    Expected { steps, text }
+}
+
 /// Aborts the test unless a text is this one, or is missing as expected.
 fn expect_found(rt: &impl Abort, found: &Option<Vec<u8>>, wanted: Option<&[u8]>) {
     match (found, wanted) {
@@ -191,73 +205,74 @@ fn expect_found(rt: &impl Abort, found: &Option<Vec<u8>>, wanted: Option<&[u8]>)
     }
 }
 
-/// Aborts the test unless an input term has this result within `n` steps.
+/// Aborts the test unless an input term has the expected result.
 fn expect_given<B: TermBank>(
     rt: &impl Abort,
     alloc: Global,
     engine: &mut Engine<B>,
     t: Term,
-    n: u64,
-    wanted: Option<&[u8]>,
+    due: Expected<'_>,
 )
     requires { IsGiven engine.old.spec (B.store engine.old.bank) t }
 {
-    let found = value_text(alloc, engine, t, n).expect(rt, "a value, or none");
-    expect_found(rt, &found, wanted);
+    let found = value_text(alloc, engine, t, due.steps).expect(rt, "a value, or none");
+    expect_found(rt, &found, due.text);
 }
 
-/// Aborts the test unless an input term, a sum with an annotation, has this result within `n`
-/// steps.
+/// Aborts the test unless an input term, a sum with an annotation, has the expected result.
 fn evaluate_given<B: TermBank + Drop>(
     rt: &impl Abort,
     alloc: Global,
     mut bank: Box<B>,
-    n: u64,
-    wanted: Option<&[u8]>,
+    due: Expected<'_>,
 ) {
     let addition = addition(rt, alloc);
     let sum = admit_text(rt, alloc, &addition, &mut *bank, b"plus(s(z),z){at(3,7)}");
     let mut engine = engine_of(rt, alloc, addition, bank);
-    expect_given(rt, alloc, &mut engine, sum, n, wanted);
+    expect_given(rt, alloc, &mut engine, sum, due);
 }
 
-/// Aborts the test unless the first EVAL term has this result within `n` steps.
+/// Aborts the test unless the first EVAL term has the expected result.
 fn expect_own<B: TermBank>(
     rt: &impl Abort,
     alloc: Global,
     engine: &mut Engine<B>,
-    n: u64,
-    wanted: Option<&[u8]>,
+    due: Expected<'_>,
 ) {
     assert!(rt; engine.eval_terms() > 0);
-    let found = own_value_text(alloc, engine, 0, n).expect(rt, "a value, or none");
-    expect_found(rt, &found, wanted);
+    let found = own_value_text(alloc, engine, 0, due.steps).expect(rt, "a value, or none");
+    expect_found(rt, &found, due.text);
 }
 
-/// Aborts the test unless the sum of the specification has this result within `n` steps.
+/// Aborts the test unless the sum of the specification has the expected result.
 fn evaluate_own<B: TermBank + Drop>(
     rt: &impl Abort,
     alloc: Global,
     bank: Box<B>,
-    n: u64,
-    wanted: Option<&[u8]>,
+    due: Expected<'_>,
 ) {
     let mut engine = engine_of(rt, alloc, addition(rt, alloc), bank);
-    expect_own(rt, alloc, &mut engine, n, wanted);
+    expect_own(rt, alloc, &mut engine, due);
 }
 
 #[test]
 fn evaluates_given_terms(rt: HostRuntime) {
     let alloc = rt.alloc();
-    evaluate_given(&rt, alloc, bank_of(&rt, alloc), 1, None);
-    evaluate_given(&rt, alloc, bank_of(&rt, alloc), 2, Some(b"s(z){at(3,7)}"));
+    evaluate_given(&rt, alloc, bank_of(&rt, alloc), within(1, None));
+    let due = within(2, Some(b"s(z){at(3,7)}"));
+    evaluate_given(&rt, alloc, bank_of(&rt, alloc), due);
 }
 
 #[test]
 fn evaluates_own_terms(rt: HostRuntime) {
     let alloc = rt.alloc();
-    evaluate_own(&rt, alloc, bank_of(&rt, alloc), 2, None);
-    evaluate_own(&rt, alloc, bank_of(&rt, alloc), 3, Some(b"s(s(s(z)))"));
+    evaluate_own(&rt, alloc, bank_of(&rt, alloc), within(2, None));
+    evaluate_own(
+        &rt,
+        alloc,
+        bank_of(&rt, alloc),
+        within(3, Some(b"s(s(s(z)))")),
+    );
 }
 
 /// Aborts the test unless the term of a text is rejected.
@@ -288,20 +303,19 @@ fn request_letters(rt: &impl Abort, alloc: Global, addition: &Checked, text: &[u
     request(alloc, addition, requests, text).expect(rt, "a term to evaluate")
 }
 
-/// Aborts the test unless the term of a text has this result within `n` steps.
+/// Aborts the test unless the term of a text has the expected result.
 fn expect_answer<B: TermBank>(
     rt: &impl Abort,
     alloc: Global,
     engine: &mut Engine<B>,
     text: &[u8],
-    n: u64,
-    wanted: Option<&[u8]>,
+    due: Expected<'_>,
 )
     ensures { KeepsRoots (B.store engine.old.bank) (B.store engine.new.bank) }
 {
     let letters = request_letters(rt, alloc, engine.checked(), text);
-    let found = answer(alloc, engine, &letters, n).expect(rt, "a value, or none");
-    expect_found(rt, &found, wanted);
+    let found = answer(alloc, engine, &letters, due.steps).expect(rt, "a value, or none");
+    expect_found(rt, &found, due.text);
 }
 
 /// Evaluates the term of a text within `n` steps, and protects the result.
@@ -337,8 +351,9 @@ fn expect_let_go<B: TermBank>(
 /// and one that is kept meanwhile is still there at the end.
 fn ask_in_turn<B: TermBank>(rt: &impl Abort, alloc: Global, engine: &mut Engine<B>) {
     let kept = keep_value_of(rt, alloc, engine, b"plus(s(z),s(z))", 2);
-    expect_answer(rt, alloc, engine, b"plus(s(s(z)),z)", 2, None);
-    expect_answer(rt, alloc, engine, b"s(plus(z,z)){x}", 1, Some(b"s(z)"));
+    expect_answer(rt, alloc, engine, b"plus(s(s(z)),z)", within(2, None));
+    let due = within(1, Some(b"s(z)"));
+    expect_answer(rt, alloc, engine, b"s(plus(z,z)){x}", due);
     expect_let_go(rt, alloc, engine, kept, b"s(s(z))");
 }
 

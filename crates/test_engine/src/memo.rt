@@ -85,8 +85,8 @@ const IN_A_SET: [Step; 6] = [
 const ROWS: [Row; 5] = [
     ("a pair is put and cleared", 1, &CLEARED),
     ("no entries keep nothing", 0, &NOTHING_KEPT),
-    ("what is not held is dropped", 8, &NOT_HELD),
-    ("new pairs are handed over", 8, &HANDED_OVER),
+    ("results that no root reaches are dropped", 8, &NOT_HELD),
+    ("results of new pairs become roots", 8, &HANDED_OVER),
     ("two keys share a set", 4, &IN_A_SET),
 ];
 

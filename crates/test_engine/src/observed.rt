@@ -242,7 +242,7 @@ const LONG_TERM: [Step; 6] = [
     Step::Count,
     Step::LongTerm,
     Step::Counts(&IN_TURN),
-    Step::Done("behind two long terms", Done::Steps(2 * LONG)),
+    Step::Done("after two long terms", Done::Steps(2 * LONG)),
 ];
 
 /// Rules are counted from the request on, and from zero after another request; steps are counted
@@ -258,7 +258,7 @@ const RULES: [Step; 13] = [
     Step::Counts(&OF_BOTH),
     Step::Rows(&BROKEN_OFF),
     Step::Counts(&OF_ALL),
-    Step::Done("behind four terms", Done::Steps(10)),
+    Step::Done("after four terms", Done::Steps(10)),
     Step::Count,
     Step::Counts(&OF_NONE),
 ];
@@ -268,13 +268,13 @@ const CALLS: [Step; 4] = [
     Step::Count,
     Step::Rows(&REPEATED),
     Step::Counts(&OF_REPEATED),
-    Step::Done("behind calls", Done::Steps(7)),
+    Step::Done("after calls", Done::Steps(7)),
 ];
 
 const RESULTS: [Step; 3] = [
     Step::Count,
     Step::Rows(&LONGEST),
-    Step::Done("behind remembered calls", Done::Remembered),
+    Step::Done("after memoized calls", Done::Remembered),
 ];
 
 /// Twenty terms take a cell for the empty list and three more for each: itself, the list of its
@@ -282,13 +282,13 @@ const RESULTS: [Step; 3] = [
 const CELLS: [Step; 3] = [
     Step::Done("before terms", Done::Cells(0)),
     Step::Values(20),
-    Step::Done("behind twenty terms", Done::Cells(61)),
+    Step::Done("after twenty terms", Done::Cells(61)),
 ];
 
 /// With collections, the same cells are made, and fewer are in use.
 const RECLAIMS: [Step; 2] = [
     Step::Values(20),
-    Step::Done("behind reclaims", Done::Reclaims(61, 30)),
+    Step::Done("after collections", Done::Reclaims(61, 30)),
 ];
 
 const ENDS_TOLD: Case = Case {

@@ -186,7 +186,7 @@ fn expect_event<B: TermBank>(
     let (rule, redex) = fired_event(rt, alloc, engine, tracer, wanted);
     let made = tracer
         .rewrite(alloc, engine, rule, redex)
-        .expect(rt, "what it becomes");
+        .expect(rt, "the rewritten term");
     expect_texts(
         rt,
         alloc,

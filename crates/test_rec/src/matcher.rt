@@ -1,7 +1,5 @@
 //! Tests of the search for the first rule that matches a term.
 
-ghost use Rattle.std.specs.Prelude.{IsSome};
-ghost use Rattle.rx_term.specs.Store.{tree_at};
 ghost use Rattle.rec_sorts.specs.Linked.{AreLinked, HasMoreSymbols};
 ghost use Rattle.rec_match.specs.Next.{AreReady};
 
@@ -146,28 +144,8 @@ fn are(one: Term, terms: &[Term], wanted: &[bool]) -> bool {
     true
 }
 
-/// Aborts the test unless the matcher finds this rule, from a rule on, with these values.
-fn expect_answer<B: TermBank>(
-    rt: &impl Abort,
-    alloc: Global,
-    bank: &B,
-    matcher: &Matcher,
-    a: Term,
-    u: Term,
-    row: &Row,
-)
-    requires held { IsSome (tree_at (B.store bank.now) u) }
-    requires ready { AreReady (B.store bank.now) matcher.now }
-{
-    let mut bind = SmallVec::new(alloc);
-    let rule = matcher
-        .next(bank, u, row.1, &mut bind)
-        .expect(rt, "an answer");
-    let holds = rule == row.2 && are(a, bind.as_slice(), row.3);
-    assert!(rt; holds, "{} from {}", row.0, row.1);
-}
-
-/// Aborts the test unless the matcher of a specification finds the rule of a test case.
+/// Aborts the test unless the matcher of a specification finds the rule of a test case, from a rule
+/// on, with its values.
 fn expect_row<B: TermBank>(
     rt: &impl Abort,
     alloc: Global,
@@ -179,7 +157,12 @@ fn expect_row<B: TermBank>(
     let u = term_of(rt, alloc, bank, row.0.as_bytes());
     let matcher = build(rt, alloc, bank, checked);
     assert!(rt; bank.holds(u));
-    expect_answer(rt, alloc, bank, &matcher, a, u, row);
+    let mut bind = SmallVec::new(alloc);
+    let rule = matcher
+        .next(bank, u, row.1, &mut bind)
+        .expect(rt, "an answer");
+    let holds = rule == row.2 && are(a, bind.as_slice(), row.3);
+    assert!(rt; holds, "{} from {}", row.0, row.1);
 }
 
 /// Returns a store of 100 cells that counts how often a node is read.
@@ -245,8 +228,8 @@ fn trees_of_rules(rt: HostRuntime) {
 }
 
 /// Appends a number between two texts.
-fn push_number(rt: &impl Abort, text: &mut Vec<u8>, before: &str, number: u32, behind: &str) {
-    assert!(rt; write!(text, "{before}{number}{behind}").is_ok());
+fn push_number(rt: &impl Abort, text: &mut Vec<u8>, before: &str, number: u32, after: &str) {
+    assert!(rt; write!(text, "{before}{number}{after}").is_ok());
 }
 
 /// Appends a rule of the operator `w`, whose left-hand side has `a` at one position and variables

@@ -121,7 +121,7 @@ fn a_long_term(rt: HostRuntime) {
 }
 
 #[test]
-fn a_place_far_behind(rt: HostRuntime) {
+fn an_error_at_a_large_offset(rt: HostRuntime) {
     let text = DEEP_FAULT.text(&rt, rt.alloc());
     assert!(rt; fault(&rt, rt.alloc(), &text) == Some((5, 68_049)));
 }

@@ -22,7 +22,7 @@ fn ask_anew(rt: &impl Abort, alloc: Global, cells: u32, rows: &[Row]) {
 }
 
 /// The capacities of stores, and the test cases for each.
-const ASKED: [(u32, &[Row]); 9] = [
+const ASKED: [(u32, &[Row]); 11] = [
     (100, &rows::MAKES),
     (100, &rows::PARTS),
     (100, &rows::KEEPS),
@@ -32,6 +32,8 @@ const ASKED: [(u32, &[Row]); 9] = [
     (100, &rows::REFUSED_PATTERNS),
     (100, &rows::FORGETS_BINDINGS),
     (100, &rows::APPLIES),
+    (100, &rows::CALLS),
+    (100, &rows::TABLES),
 ];
 
 #[test]

@@ -7,7 +7,9 @@
 //! | Module | Subject |
 //! |---|---|
 //! | `rows::spec`, `rows::given`, `rows::limits` | specifications, input terms, sizes of texts |
-//! | `rows::term`, `rows::look`, `rows::pattern` | terms, indented terms, patterns |
+//! | `rows::term`, `rows::table` | terms, tables, lines of a limited length |
+//! | `rows::look`, `rows::pattern` | indented terms, patterns |
+//! | `rows::choice` | choices of terms |
 //! | `rows::serve`, `rows::depth` | sessions, call depth |
 //! | `rows::bank`, `rows::cells`, `rows::counting` | the use of the store, and small stores |
 //! | `rows::hostile`, `rows::streams`, `rows::performing` | readers and writers that fail |

@@ -2,6 +2,7 @@
 
 mod bank;
 mod cells;
+mod choice;
 mod counting;
 mod depth;
 mod given;
@@ -11,8 +12,10 @@ mod look;
 mod pattern;
 mod performing;
 mod serve;
+mod shared;
 mod spec;
 mod streams;
+mod table;
 mod term;
 
 use rec_run::{RunOptions, run_at};

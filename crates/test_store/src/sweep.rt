@@ -78,26 +78,40 @@ fn expect_anns_taken(rt: &impl Abort, arena: &Arena, anns: Option<Slot>)
     }
 }
 
-/// Makes a cell with these parts, linked into a chain.
-fn node(
-    rt: &impl Abort,
-    arena: &mut Arena,
-    chain: u32,
+/// The parts of a cell.
+#[derive(Clone, Copy)]
+struct Parts {
+    /// The kind of the cell.
     kind: u8,
-    parts: (Slot, Slot),
+    /// The two cells that it refers to.
+    cells: (Slot, Slot),
+    /// The cell of its annotations, if it has any.
     anns: Option<Slot>,
-) -> Slot
+}
+
+/// Returns the parts of a cell without annotations.
+fn plain(kind: u8, cells: (Slot, Slot)) -> Parts {
+    Parts {
+        kind,
+        cells,
+        anns: None,
+    }
+}
+
+/// Makes a cell with these parts, linked into a chain.
+fn node(rt: &impl Abort, arena: &mut Arena, chain: u32, parts: Parts) -> Slot
     requires { CanCollect arena.old }
     ensures { CanCollect arena.new }
 {
-    expect_taken(rt, arena, parts.0);
-    expect_taken(rt, arena, parts.1);
-    expect_anns_taken(rt, arena, anns);
+    let (a, b) = parts.cells;
+    expect_taken(rt, arena, a);
+    expect_taken(rt, arena, b);
+    expect_anns_taken(rt, arena, parts.anns);
     let body = CellBody {
-        kind,
-        a: u64::from(parts.0.0),
-        b: u64::from(parts.1.0),
-        anns,
+        kind: parts.kind,
+        a: u64::from(a.0),
+        b: u64::from(b.0),
+        anns: parts.anns,
         hash: u64::from(chain),
     };
     link_slot(rt, arena, chain, body)
@@ -166,11 +180,16 @@ fn graph(rt: &impl Abort, arena: &mut Arena) -> Reached
     let empty = leaf(rt, arena, 0);
     let one = leaf(rt, arena, 1);
     let two = leaf(rt, arena, 2);
-    let ones = node(rt, arena, 0, LIST, (one, empty), None);
-    let _twos = node(rt, arena, 1, LIST, (two, ones), None);
-    let notes = node(rt, arena, 0, LIST, (empty, empty), None);
-    let call = node(rt, arena, 2, APPLICATION, (two, ones), Some(notes));
-    let _other = node(rt, arena, 2, APPLICATION, (one, ones), None);
+    let ones = node(rt, arena, 0, plain(LIST, (one, empty)));
+    let _twos = node(rt, arena, 1, plain(LIST, (two, ones)));
+    let notes = node(rt, arena, 0, plain(LIST, (empty, empty)));
+    let call = Parts {
+        kind: APPLICATION,
+        cells: (two, ones),
+        anns: Some(notes),
+    };
+    let call = node(rt, arena, 2, call);
+    let _other = node(rt, arena, 2, plain(APPLICATION, (one, ones)));
     Reached {
         empty,
         one,
@@ -210,8 +229,8 @@ fn collect_gray(rt: &impl Abort, alloc: Global, arena: &mut Arena)
 {
     let empty = leaf(rt, arena, 0);
     let one = leaf(rt, arena, 1);
-    let ones = node(rt, arena, 0, LIST, (one, empty), None);
-    let _lost = node(rt, arena, 1, LIST, (one, ones), None);
+    let ones = node(rt, arena, 0, plain(LIST, (one, empty)));
+    let _lost = node(rt, arena, 1, plain(LIST, (one, ones)));
     make_gray(rt, arena, ones);
     collect(arena);
     expect_cells(rt, arena, 3);
@@ -267,7 +286,7 @@ fn long_list(rt: &impl Abort, arena: &mut Arena) -> Slot
     let empty = leaf(rt, arena, 0);
     let mut list = empty;
     for i in 0..NODES {
-        list = node(rt, arena, i % CHAINS, LIST, (empty, list), None);
+        list = node(rt, arena, i % CHAINS, plain(LIST, (empty, list)));
     }
     list
 }

@@ -6,15 +6,16 @@ ghost use Rattle.rx_run.specs.Refusals.{ending_of, refusal_due};
 ghost use Rattle.rx_run.specs.Run.{Stops};
 ghost use Rattle.rx_run.specs.Streams.{ReportsWrite};
 ghost use Rattle.rec_run.specs.EvaluatedLines.{ReportsOutput};
-ghost use Rattle.rec_run.specs.Depth.{EndsBehind, IsBounded};
+ghost use Rattle.rec_run.specs.Depth.{EndsBehind, IsBounded, counts_in};
 ghost use Rattle.rec_run.specs.GivenTerms.{IsReady, IsRefused, run_due};
 ghost use Rattle.rec_run.specs.Output.{shown_of};
-ghost use Rattle.rec_run.specs.Reports.{job_limits, job_report};
+ghost use Rattle.rec_run.specs.Reports.{job_counts, job_report, no_lines};
 ghost use Rattle.rec_run.specs.Run.{HasRoom, RoomExhausts};
 
 use crate::observer::{Observer, Profiler};
 use crate::options::Run;
 use crate::reporter::Reporter;
+use crate::spec::counts::Counts;
 use crate::spec::evaluated::{Left, write_evaluated};
 use crate::spec::reading::Job;
 use rec_engine::Watch;
@@ -28,6 +29,8 @@ use std::io::Write;
 pub struct RunReport {
     /// Whether the run is done or rejected an input, and with which error.
     pub ending: Ending,
+    /// The number of lines of terms that the run wrote.
+    pub lines: u64,
     /// The number of limit lines that the run wrote.
     pub limit_lines: u64,
 }
@@ -67,8 +70,8 @@ pub(crate) fn answer<B: TermBank, W: Write, V: Watch, P: Profiler, S: Reporter>(
     requires unrooted { (t : ℕ) → (B.store bank).roots t ≡ 0 }
     requires ready { IsReady (B.store bank) reading }
     ensures ends { IfOk result.end (λ report. report.ending ≡ ending_of reading) }
-    ensures limits { IfOk result.end (λ report. report.limit_lines
-        ≡ job_limits (B.store bank) run.settings.form run.settings.options.steps reading) }
+    ensures counts { IfOk result.end (λ report. counts_in report ≡ job_counts (B.store bank)
+        run.settings.terms run.settings.form run.settings.options.steps reading) }
     ensures ok { OnOk result.end (Writes W.contents out.old out.new
         (run_due (B.store bank) (shown_of run.settings) run.settings.options.steps reading).text) }
     ensures err { IfErr result.end
@@ -83,7 +86,8 @@ pub(crate) fn answer<B: TermBank, W: Write, V: Watch, P: Profiler, S: Reporter>(
     ensures bounded { IfErr result.end (IsBounded run.settings.depth) }
     ensures reports { ReportsOutput out.old out.new result.end }
     ensures told { OnOk result.end (S.told observer.new.reporter ≡ S.told observer.old.reporter
-        ++ job_report S.says (B.store bank) run.settings.options.steps reading) }
+        ++ job_report run.settings.terms S.says (B.store bank) run.settings.options.steps
+        reading) }
 {
     let ending = reading.ending();
     let Left {
@@ -98,10 +102,10 @@ pub(crate) fn answer<B: TermBank, W: Write, V: Watch, P: Profiler, S: Reporter>(
     }
 }
 
-/// Flushes if everything was written, and returns the end of the run. `written` has the number of
-/// limit lines. If the flush fails, the error is `Write`.
+/// Flushes if everything was written, and returns the end of the run. `written` has the numbers of
+/// lines. If the flush fails, the error is `Write`.
 pub fn end_run<W: Write>(
-    written: Result<u64, RunFault>,
+    written: Result<Counts, RunFault>,
     ending: Ending,
     out: &mut Output<'_, W>,
 ) -> Result<RunReport, RunFault>
@@ -112,11 +116,12 @@ pub fn end_run<W: Write>(
 {
     match written {
         Err(fault) => Err(fault),
-        Ok(limit_lines) => match out.flush() {
+        Ok(counts) => match out.flush() {
             Err(_) => Err(RunFault::Write),
             Ok(()) => Ok(RunReport {
                 ending,
-                limit_lines,
+                lines: counts.lines,
+                limit_lines: counts.limit_lines,
             }),
         },
     }
@@ -132,8 +137,8 @@ fn write_due<B: TermBank, W: Write, V: Watch, P: Profiler, S: Reporter>(
 ) -> Left<B>
     requires unrooted { (t : ℕ) → (B.store bank).roots t ≡ 0 }
     requires ready { IsReady (B.store bank) reading }
-    ensures limits { IfOk result.written (λ limit_lines. limit_lines
-        ≡ job_limits (B.store bank) run.settings.form run.settings.options.steps reading) }
+    ensures counts { IfOk result.written (λ counts. counts ≡ job_counts (B.store bank)
+        run.settings.terms run.settings.form run.settings.options.steps reading) }
     ensures ok { OnOk result.written (Writes W.contents out.old out.new
         (run_due (B.store bank) (shown_of run.settings) run.settings.options.steps reading).text) }
     ensures err { IfErr result.written
@@ -148,7 +153,8 @@ fn write_due<B: TermBank, W: Write, V: Watch, P: Profiler, S: Reporter>(
     ensures bounded { IfErr result.written (IsBounded run.settings.depth) }
     ensures reports { ReportsOutput out.old out.new result.written }
     ensures told { OnOk result.written (S.told observer.new.reporter ≡ S.told observer.old.reporter
-        ++ job_report S.says (B.store bank) run.settings.options.steps reading) }
+        ++ job_report run.settings.terms S.says (B.store bank) run.settings.options.steps
+        reading) }
 {
     match reading {
         Reading::Refused(refusal) => Left {
@@ -160,9 +166,9 @@ fn write_due<B: TermBank, W: Write, V: Watch, P: Profiler, S: Reporter>(
     }
 }
 
-/// Writes the error line of a rejected text. Returns 0, the number of limit lines.
-pub fn refuse<W: Write>(refusal: Refusal, out: &mut Output<'_, W>) -> Result<u64, RunFault>
-    ensures limits { IfOk result (λ limit_lines. limit_lines ≡ 0) }
+/// Writes the error line of a rejected text. Returns the numbers of lines of terms, which are 0.
+pub fn refuse<W: Write>(refusal: Refusal, out: &mut Output<'_, W>) -> Result<Counts, RunFault>
+    ensures counts { IfOk result (λ counts. counts ≡ no_lines) }
     ensures ok { OnOk result
         (Writes W.contents out.old out.new (refusal_due refusal).text) }
     ensures err { IfErr result (λ fault. Stops fault (refusal_due refusal).text
@@ -171,7 +177,10 @@ pub fn refuse<W: Write>(refusal: Refusal, out: &mut Output<'_, W>) -> Result<u64
     ensures reports { ReportsOutput out.old out.new result }
 {
     match write_refusal_to(refusal, out) {
-        Ok(()) => Ok(0),
+        Ok(()) => Ok(Counts {
+            lines: 0,
+            limit_lines: 0,
+        }),
         Err(RefusedWrite) => Err(RunFault::Write),
     }
 }

@@ -1,6 +1,6 @@
 //! Evaluates the terms of a run with an engine that is made for them.
 
-ghost use Rattle.std.specs.Prelude.{◌≡◌, ◌<◌, ◌+◌, ◌++◌, ℕ, [], IfErr, IfOk, IsSome, OnOk, length};
+ghost use Rattle.std.specs.Prelude.{◌≡◌, ◌<◌, ◌++◌, ℕ, [], IfErr, IfOk, IsSome, OnOk, length};
 ghost use Rattle.std.specs.Option.{ForSome};
 ghost use Rattle.rx_term.specs.Steps.{Keeps, with_count};
 ghost use Rattle.rx_term.specs.Store.{tree_at};
@@ -12,13 +12,14 @@ ghost use Rattle.rec_run.specs.Depth.{IsBounded, RunDeepOnly};
 ghost use Rattle.rec_run.specs.EvaluatedLines.{ProtectsTerms, ReportsOutput, RunLacks};
 ghost use Rattle.rec_run.specs.EvaluatedLines.{engine_options};
 ghost use Rattle.rec_run.specs.GivenTerms.{HoldsTerms, given_by};
-ghost use Rattle.rec_run.specs.Output.{limit_lines, lines, shown_of};
+ghost use Rattle.rec_run.specs.Output.{chosen, counts_of, lines, shown_of};
 ghost use Rattle.rec_run.specs.Reports.{IsReadyFor, StaysReady, TellsMore, report_of};
 ghost use Rattle.rec_run.specs.Run.{RoomExhausts};
 
 use crate::observer::{Observer, Profiler};
 use crate::options::{Run, RunOptions};
 use crate::reporter::Reporter;
+use crate::spec::counts::Counts;
 use crate::spec::lines::write_lines;
 use crate::spec::reading::Job;
 use rec_engine::{Engine, Options, Watch};
@@ -32,16 +33,16 @@ use std::io::Write;
 /// The result of the lines of a run.
 #[derive(Drop)]
 pub(crate) struct Left<B> {
-    /// The number of limit lines, or the error that ended the output.
-    pub(crate) written: Result<u64, RunFault>,
+    /// The numbers of lines, or the error that ended the output.
+    pub(crate) written: Result<Counts, RunFault>,
     /// The store over which the terms were evaluated.
     pub(crate) bank: B,
     /// The terms that the last evaluation needed in the store.
     pub(crate) needed: Vec<Term>,
 }
 
-/// Evaluates the terms of a specification and then those of a list, if given, over the store that
-/// has them, and writes a line for each. The list stays protected.
+/// Evaluates the chosen terms of a specification and then those of a list, if given, over the store
+/// that has them, and writes a line for each. The list stays protected.
 pub(crate) fn write_evaluated<B: TermBank, W: Write, V: Watch, P: Profiler, S: Reporter>(
     run: Run,
     job: Job,
@@ -51,8 +52,8 @@ pub(crate) fn write_evaluated<B: TermBank, W: Write, V: Watch, P: Profiler, S: R
 ) -> Left<B>
     requires unrooted { (t : ℕ) → (B.store bank).roots t ≡ 0 }
     requires given { ForSome job.list (HoldsTerms job.checked.spec (B.store bank)) }
-    ensures limits { IfOk result.written (λ limits. limits
-        ≡ limit_lines job.checked.spec (given_by (B.store bank) job.list)
+    ensures counts { IfOk result.written (λ counts. counts ≡ counts_of run.settings.terms
+        job.checked.spec (given_by (B.store bank) job.list)
         run.settings.form run.settings.options.steps) }
     ensures ok { OnOk result.written (Writes W.contents out.old out.new
         (lines job.checked.spec (given_by (B.store bank) job.list)
@@ -67,8 +68,8 @@ pub(crate) fn write_evaluated<B: TermBank, W: Write, V: Watch, P: Profiler, S: R
     ensures reports { ReportsOutput out.old out.new result.written }
     ensures bounded { IfErr result.written (IsBounded run.settings.depth) }
     ensures told { OnOk result.written (S.told observer.new.reporter ≡ S.told observer.old.reporter
-        ++ report_of S.says job.checked.source job.checked.spec (given_by (B.store bank) job.list)
-        run.settings.options.steps) }
+        ++ report_of run.settings.terms S.says job.checked.source job.checked.spec
+        (given_by (B.store bank) job.list) run.settings.options.steps) }
 {
     match observer.reporter.begin(run.alloc, &job.checked) {
         Ok(()) => write_ready(run, job, bank, out, observer),
@@ -80,7 +81,7 @@ pub(crate) fn write_evaluated<B: TermBank, W: Write, V: Watch, P: Profiler, S: R
     }
 }
 
-/// Evaluates the terms and writes their lines. The reporter is ready for their values.
+/// Evaluates the chosen terms and writes their lines. The reporter is ready for their values.
 fn write_ready<B: TermBank, W: Write, V: Watch, P: Profiler, S: Reporter>(
     run: Run,
     job: Job,
@@ -91,8 +92,8 @@ fn write_ready<B: TermBank, W: Write, V: Watch, P: Profiler, S: Reporter>(
     requires unrooted { (t : ℕ) → (B.store bank).roots t ≡ 0 }
     requires given { ForSome job.list (HoldsTerms job.checked.spec (B.store bank)) }
     requires ready { S.is_ready observer.old.reporter job.checked.source job.checked.spec }
-    ensures limits { IfOk result.written (λ limits. limits
-        ≡ limit_lines job.checked.spec (given_by (B.store bank) job.list)
+    ensures counts { IfOk result.written (λ counts. counts ≡ counts_of run.settings.terms
+        job.checked.spec (given_by (B.store bank) job.list)
         run.settings.form run.settings.options.steps) }
     ensures ok { OnOk result.written (Writes W.contents out.old out.new
         (lines job.checked.spec (given_by (B.store bank) job.list)
@@ -107,8 +108,8 @@ fn write_ready<B: TermBank, W: Write, V: Watch, P: Profiler, S: Reporter>(
     ensures reports { ReportsOutput out.old out.new result.written }
     ensures bounded { IfErr result.written (IsBounded run.settings.depth) }
     ensures told { OnOk result.written (S.told observer.new.reporter ≡ S.told observer.old.reporter
-        ++ report_of S.says job.checked.source job.checked.spec (given_by (B.store bank) job.list)
-        run.settings.options.steps) }
+        ++ report_of run.settings.terms S.says job.checked.source job.checked.spec
+        (given_by (B.store bank) job.list) run.settings.options.steps) }
 {
     let Job { checked, list } = job;
     match engine_over(run.alloc, checked, bank, list, run.settings.options) {
@@ -129,7 +130,7 @@ fn write_ready<B: TermBank, W: Write, V: Watch, P: Profiler, S: Reporter>(
     }
 }
 
-/// Writes a line for each term, and passes the statistics to the profiler. The engine has the
+/// Writes a line for each chosen term, and passes the statistics to the profiler. The engine has the
 /// options of the run.
 fn observe_lines<B: TermBank, W: Write, V: Watch, P: Profiler, S: Reporter>(
     run: Run,
@@ -137,12 +138,12 @@ fn observe_lines<B: TermBank, W: Write, V: Watch, P: Profiler, S: Reporter>(
     list: Option<Term>,
     out: &mut Output<'_, W>,
     observer: &mut Observer<V, P, S>,
-) -> Result<u64, RunFault>
+) -> Result<Counts, RunFault>
     requires options { engine.old.options ≡ engine_options run.settings.options }
     requires memo { RemembersNothing run.settings.options.memo engine.old.memo }
     requires protected { ForSome list (ProtectsTerms engine.old.spec (B.store engine.old.bank)) }
     requires ready { IsReadyFor S.is_ready engine.old.spec observer.old.reporter }
-    ensures limits { IfOk result (λ limits. limits ≡ limit_lines engine.old.spec
+    ensures counts { IfOk result (λ counts. counts ≡ counts_of run.settings.terms engine.old.spec
         (given_by (B.store engine.old.bank) list) run.settings.form run.settings.options.steps) }
     ensures keeps { Keeps (B.store engine.old.bank) (B.store engine.new.bank) [] }
     ensures ok { OnOk result (Writes W.contents out.old out.new
@@ -155,14 +156,15 @@ fn observe_lines<B: TermBank, W: Write, V: Watch, P: Profiler, S: Reporter>(
     ensures room { IfErr result
         (RunLacks (B.store engine.new.bank) engine.new.work engine.new.memo) }
     ensures deep { RunDeepOnly engine.new.waiting run.settings.depth result }
-    ensures bound { OnOk result (0 < length engine.old.spec.terms
-        + length (given_by (B.store engine.old.bank) list)
+    ensures bound { OnOk result (0 < length (chosen run.settings.terms engine.old.spec
+        (given_by (B.store engine.old.bank) list))
         → KeepsLimit run.settings.depth engine.new.bound engine.new.waiting) }
     ensures reports { ReportsOutput out.old out.new result }
     ensures ready { StaysReady S.is_ready engine.old.spec observer.old.reporter observer.new.reporter }
     ensures told { OnOk result (TellsMore S.is_ready S.told engine.old.spec
-        observer.old.reporter observer.new.reporter (λ source. report_of S.says source
-        engine.old.spec (given_by (B.store engine.old.bank) list) run.settings.options.steps)) }
+        observer.old.reporter observer.new.reporter (λ source. report_of run.settings.terms S.says
+        source engine.old.spec (given_by (B.store engine.old.bank) list)
+        run.settings.options.steps)) }
 {
     observer.begin(run.alloc, engine);
     let written = write_lines(run, engine, list, out, observer);

@@ -8,7 +8,7 @@ ghost use Rattle.rx_run.specs.Streams.{ReportsWrite};
 ghost use Rattle.rec_run.specs.Depth.{IsBounded};
 ghost use Rattle.rec_run.specs.GivenTerms.{OnGoodSpec, OnRefusedSpec};
 ghost use Rattle.rec_run.specs.Output.{shown_of};
-ghost use Rattle.rec_run.specs.Reports.{HasLimitLines, Tells};
+ghost use Rattle.rec_run.specs.Reports.{HasLimitLines, HasLines, Tells};
 ghost use Rattle.rec_run.specs.Run.{HasRoom, IsDueFor, ReportsReadsOf, RoomIn, both_texts};
 
 use crate::observer::{Observer, Profiler};
@@ -27,12 +27,12 @@ use std::io::{Read, Write};
 /// Evaluates a specification with all settings, and notifies an observer.
 ///
 /// Reads `spec` and, if it is accepted and input terms are given, their text. Writes one line for
-/// each term of both, or the error line of a rejected text, and flushes. The store is made for the
-/// run, with the capacity `settings.options.cells`.
+/// each term of both that `settings.terms` selects, or the error line of a rejected text, and
+/// flushes. The store is made for the run, with the capacity `settings.options.cells`.
 ///
-/// The report has the end of the run and the number of limit lines. The observer's reporter is
-/// called with each value before its line is written. A run that fails may have reported a value
-/// whose line was not written.
+/// The report has the end of the run and the numbers of lines and of limit lines. The observer's
+/// reporter is called with each value before its line is written. A run that fails may have reported
+/// a value whose line was not written.
 ///
 /// # Errors
 ///
@@ -53,9 +53,12 @@ pub fn run_given<R: Read, G: InputTerms, W: Write, V: Watch, P: Profiler, S: Rep
         (shown_of settings) settings.options.steps)
         (both_texts (R.remaining spec.old) (G.text terms.old))
         report.ending (W.contents out.old) (W.contents out.new)) }
-    ensures limits { IfOk result (λ report. HasLimitLines settings.form settings.options.steps
-        (both_texts (R.remaining spec.old) (G.text terms.old)) report.limit_lines) }
-    ensures told { IfOk result (λ report. Tells S.says settings.options.steps
+    ensures lines { IfOk result (λ report. HasLines settings.terms
+        (both_texts (R.remaining spec.old) (G.text terms.old)) report.lines) }
+    ensures limits { IfOk result (λ report. HasLimitLines settings.terms settings.form
+        settings.options.steps (both_texts (R.remaining spec.old) (G.text terms.old))
+        report.limit_lines) }
+    ensures told { IfOk result (λ report. Tells settings.terms S.says settings.options.steps
         (both_texts (R.remaining spec.old) (G.text terms.old))
         (S.told observer.old.reporter) (S.told observer.new.reporter)) }
     ensures fault { IfErr result (λ fault. BreaksFor (IsDueFor
@@ -99,9 +102,12 @@ pub fn run_over<B: TermBank, R: Read, G: InputTerms, W: Write, V: Watch, P: Prof
         (shown_of settings) settings.options.steps)
         (both_texts (R.remaining spec.old) (G.text terms.old))
         report.ending (W.contents out.old) (W.contents out.new)) }
-    ensures limits { IfOk result.end (λ report. HasLimitLines settings.form settings.options.steps
-        (both_texts (R.remaining spec.old) (G.text terms.old)) report.limit_lines) }
-    ensures told { IfOk result.end (λ report. Tells S.says settings.options.steps
+    ensures lines { IfOk result.end (λ report. HasLines settings.terms
+        (both_texts (R.remaining spec.old) (G.text terms.old)) report.lines) }
+    ensures limits { IfOk result.end (λ report. HasLimitLines settings.terms settings.form
+        settings.options.steps (both_texts (R.remaining spec.old) (G.text terms.old))
+        report.limit_lines) }
+    ensures told { IfOk result.end (λ report. Tells settings.terms S.says settings.options.steps
         (both_texts (R.remaining spec.old) (G.text terms.old))
         (S.told observer.old.reporter) (S.told observer.new.reporter)) }
     ensures fault { IfErr result.end (λ fault. BreaksFor (IsDueFor
@@ -152,9 +158,12 @@ fn given_over<B: TermBank, R: Read, G: InputTerms, W: Write, V: Watch, P: Profil
         (shown_of settings) settings.options.steps)
         (both_texts (remaining_in R.remaining spec.old) (G.text terms.old))
         report.ending (contents_of W.contents out.old) (contents_of W.contents out.new)) }
-    ensures limits { IfOk result.end (λ report. HasLimitLines settings.form settings.options.steps
-        (both_texts (remaining_in R.remaining spec.old) (G.text terms.old)) report.limit_lines) }
-    ensures told { IfOk result.end (λ report. Tells S.says settings.options.steps
+    ensures lines { IfOk result.end (λ report. HasLines settings.terms
+        (both_texts (remaining_in R.remaining spec.old) (G.text terms.old)) report.lines) }
+    ensures limits { IfOk result.end (λ report. HasLimitLines settings.terms settings.form
+        settings.options.steps (both_texts (remaining_in R.remaining spec.old) (G.text terms.old))
+        report.limit_lines) }
+    ensures told { IfOk result.end (λ report. Tells settings.terms S.says settings.options.steps
         (both_texts (remaining_in R.remaining spec.old) (G.text terms.old))
         (S.told observer.old.reporter) (S.told observer.new.reporter)) }
     ensures fault { IfErr result.end (λ fault. BreaksFor (IsDueFor

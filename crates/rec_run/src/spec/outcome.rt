@@ -15,6 +15,7 @@ ghost use Rattle.std.specs.Io.KnownBytes.{Appends};
 ghost use Rattle.rx_term.specs.Store.{tree_at};
 ghost use Rattle.rx_term.specs.Tree.{Trees, annotations, list_of};
 ghost use Rattle.rx_text.specs.Canon.{canon, canon_all};
+ghost use Rattle.rx_table.specs.Table.{table};
 ghost use Rattle.rx_text.specs.Output.{ReportsRefusal, Writes};
 ghost use Rattle.rx_text.specs.Output.{WritesFront};
 ghost use Rattle.rx_text.specs.Written.{AppendsFront};
@@ -23,6 +24,7 @@ ghost use Rattle.rec_run.specs.EvaluatedLines.{
   IsThereFor,
   ReportsOutput,
   due_before,
+  figures_of,
   is_limit_line,
   is_over,
   outcome_line,
@@ -35,11 +37,11 @@ ghost use Rattle.rec_run.specs.GivenTerms.{item_at};
 ghost use Rattle.rec_run.specs.Output.{is_longer, notes_text};
 ghost use Rattle.rec_run.specs.Run.{HasRoom};
 ghost use Rattle.rec_run.specs.declared.options.ValueForm.TheVariants.{Within};
-ghost use Rattle.rx_run.specs.Due.{steps_text};
 
 use crate::options::{LimitLines, Run, ValueForm};
 use rec_engine::Outcome;
 use rx_run::{RunFault, put_numbered_to, write_steps_to};
+use rx_table::{count_cells, write_table_to};
 use rx_term::{Term, TermBank};
 use rx_text::{Output, RefusedWrite, write_to, write_within};
 use std::alloc::{AllocError, Global};
@@ -102,10 +104,10 @@ fn write_value<B: TermBank, W: Write>(
     ensures limit { IfOk result (λ limited. limited
         ≡ is_longer (value_of run.settings.form (B.store bank.now) valued.term)) }
     ensures ok { OnOk result (Writes W.contents out.old out.new
-        (unsaid (steps_text run.settings.options.count valued.steps)
+        (unsaid (figures_of run.settings (B.store bank.now) valued.term valued.steps)
         (value_of run.settings.form (B.store bank.now) valued.term))) }
     ensures err { OnErr result (WritesFront W.contents out.old out.new
-        (unsaid (steps_text run.settings.options.count valued.steps)
+        (unsaid (figures_of run.settings (B.store bank.now) valued.term valued.steps)
         (value_of run.settings.form (B.store bank.now) valued.term))) }
     ensures room { IfErr result HasRoom }
     ensures reports { ReportsOutput out.old out.new result }
@@ -116,10 +118,14 @@ fn write_value<B: TermBank, W: Write>(
             Ok(false)
         }
         ValueForm::Within(most) => write_bounded(run, bank, valued, most, out),
+        ValueForm::Table => {
+            write_tabled(run, bank, valued, out)?;
+            Ok(false)
+        }
     }
 }
 
-/// Writes a value of any length, and its steps.
+/// Writes the text of a value of any length, and its numbers.
 fn write_plain<B: TermBank, W: Write>(
     run: Run,
     bank: &B,
@@ -129,19 +135,62 @@ fn write_plain<B: TermBank, W: Write>(
     requires held { IsSome (tree_at (B.store bank.now) valued.term) }
     ensures ok { OnOk result (Writes W.contents out.old out.new
         (canon (item_at (B.store bank.now) valued.term)
-        ++ steps_text run.settings.options.count valued.steps)) }
+        ++ figures_of run.settings (B.store bank.now) valued.term valued.steps)) }
     ensures err { OnErr result (WritesFront W.contents out.old out.new
         (canon (item_at (B.store bank.now) valued.term)
-        ++ steps_text run.settings.options.count valued.steps)) }
+        ++ figures_of run.settings (B.store bank.now) valued.term valued.steps)) }
     ensures room { IfErr result HasRoom }
     ensures reports { ReportsOutput out.old out.new result }
 {
     write_to(run.alloc, bank, valued.term, out)?;
+    write_figures(run, bank, valued, out)
+}
+
+/// Writes the table of a value, and its numbers.
+fn write_tabled<B: TermBank, W: Write>(
+    run: Run,
+    bank: &B,
+    valued: Valued,
+    out: &mut Output<'_, W>,
+) -> Result<(), RunFault>
+    requires held { IsSome (tree_at (B.store bank.now) valued.term) }
+    ensures ok { OnOk result (Writes W.contents out.old out.new
+        (canon (table (item_at (B.store bank.now) valued.term))
+        ++ figures_of run.settings (B.store bank.now) valued.term valued.steps)) }
+    ensures err { OnErr result (WritesFront W.contents out.old out.new
+        (canon (table (item_at (B.store bank.now) valued.term))
+        ++ figures_of run.settings (B.store bank.now) valued.term valued.steps)) }
+    ensures room { IfErr result HasRoom }
+    ensures reports { ReportsOutput out.old out.new result }
+{
+    write_table_to(run.alloc, bank, valued.term, out)?;
+    write_figures(run, bank, valued, out)
+}
+
+/// Writes the numbers of a value: of its steps, and of its cells, each if it is printed.
+fn write_figures<B: TermBank, W: Write>(
+    run: Run,
+    bank: &B,
+    valued: Valued,
+    out: &mut Output<'_, W>,
+) -> Result<(), RunFault>
+    requires held { IsSome (tree_at (B.store bank.now) valued.term) }
+    ensures ok { OnOk result (Writes W.contents out.old out.new
+        (figures_of run.settings (B.store bank.now) valued.term valued.steps)) }
+    ensures err { OnErr result (WritesFront W.contents out.old out.new
+        (figures_of run.settings (B.store bank.now) valued.term valued.steps)) }
+    ensures room { IfErr result HasRoom }
+    ensures reports { ReportsOutput out.old out.new result }
+{
     write_steps_to(run.settings.options.count, valued.steps, out)?;
+    if run.settings.sizes {
+        let cells = count_cells(run.alloc, bank, valued.term)?;
+        put_numbered_to(out, b"\t", u64::from(cells))?;
+    }
     Ok(())
 }
 
-/// Writes a value of at most `most` bytes and its steps, or `!bytes`. Returns whether the value is
+/// Writes a value of at most `most` bytes and its numbers, or `!bytes`. Returns whether the value is
 /// longer.
 fn write_bounded<B: TermBank, W: Write>(
     run: Run,
@@ -154,10 +203,10 @@ fn write_bounded<B: TermBank, W: Write>(
     ensures limit { IfOk result (λ limited. limited
         ≡ is_longer (value_of (Within most) (B.store bank.now) valued.term)) }
     ensures ok { OnOk result (Writes W.contents out.old out.new
-        (unsaid (steps_text run.settings.options.count valued.steps)
+        (unsaid (figures_of run.settings (B.store bank.now) valued.term valued.steps)
         (value_of (Within most) (B.store bank.now) valued.term))) }
     ensures err { OnErr result (WritesFront W.contents out.old out.new
-        (unsaid (steps_text run.settings.options.count valued.steps)
+        (unsaid (figures_of run.settings (B.store bank.now) valued.term valued.steps)
         (value_of (Within most) (B.store bank.now) valued.term))) }
     ensures room { IfErr result HasRoom }
     ensures reports { ReportsOutput out.old out.new result }
@@ -166,7 +215,7 @@ fn write_bounded<B: TermBank, W: Write>(
     match text {
         Some(text) => {
             out.put(&text)?;
-            write_steps_to(run.settings.options.count, valued.steps, out)?;
+            write_figures(run, bank, valued, out)?;
             Ok(false)
         }
         None => {

@@ -1,8 +1,8 @@
 -- Why a request has no specified response, and the line that reports it.
 --     HasReason store ws e fault    an error of a request has its reason
 --     IsReasoned store ws e text    a line is that of an error that has its reason
---     IsReplyOf, IsReplyOnce        the specified response to a request, or such a line
-use Rattle.std.specs.Prelude.{ℕ, ◌≡◌, ◌⊎◌, Option, Some, List, MatchOption, codes}
+--     IsReplyOf                     the specified response to a request, or such a line
+use Rattle.std.specs.Prelude.{ℕ, ◌≡◌, ◌⊎◌, Some, List, MatchOption, codes}
 use Rattle.rx_term.specs.Store.{Store, cells}
 use Rattle.rx_shared.specs.State.{store_of}
 use Rattle.rec_engine.specs.Cells.{HasNoRoom}
@@ -28,30 +28,16 @@ abbrev pub HasReason : {B : Type 0} → (B → Store) → Workspace → EngineSt
     → Type 0
 HasReason store ws e Memory = Unit {0}
 HasReason store ws e Room = LacksCells store ws e
-HasReason store ws e Deep = ws.settings.depth ≡ Some e.waiting
+HasReason store ws e Deep = ws.session.settings.depth ≡ Some e.waiting
 
 -- a line is that of an error that has its reason
 abbrev pub IsReasoned : {B : Type 0} → (B → Store) → Workspace → EngineState B → List ℕ → Type 0
 IsReasoned store ws e text = (text ≡ codes "!memory\n")
     ⊎ (((text ≡ codes "!cells\n") × LacksCells store ws e)
-    ⊎ ((text ≡ codes "!depth\n") × (ws.settings.depth ≡ Some e.waiting)))
-
--- a line is that of an error with its reason in some workspace and engine with this depth limit
-pub record IsReasonedOnce {B : Type 0} (store : B → Store) (depth : Option ℕ) (text : List ℕ)
-    : Type 0 where
-  pub workspace : Workspace
-  pub engine : EngineState B
-  pub bound : workspace.settings.depth ≡ depth
-  pub is : IsReasoned store workspace engine text
+    ⊎ ((text ≡ codes "!depth\n") × (ws.session.settings.depth ≡ Some e.waiting)))
 
 -- the specified response to a request, or the line of an error that has its reason now
 abbrev pub IsReplyOf : {B : Type 0} → (B → Store) → Spec → ServeSettings → Workspace
     → EngineState B → List ℕ → List ℕ → Type 0
 IsReplyOf store y s ws e request reply =
     IsAnswer y s.options.count s.form s.options.steps request reply ⊎ IsReasoned store ws e reply
-
--- the specified response to a request, or the line of an error that had its reason at some time
-abbrev pub IsReplyOnce : {B : Type 0} → (B → Store) → Spec → ServeSettings → List ℕ → List ℕ
-    → Type 0
-IsReplyOnce store y s request reply =
-    IsAnswer y s.options.count s.form s.options.steps request reply ⊎ IsReasonedOnce store s.depth reply

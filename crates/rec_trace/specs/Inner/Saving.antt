@@ -37,6 +37,12 @@ pub record KeepsLowest (w w' : Store) (old new : List Reference) (before after :
     pub saved : AreSaved w' old after
     pub enough : before.count ≤ after.count
 
+-- CanSave w r s count: the list has the lowest values of a row, which has at least `count`
+pub record CanSave (w : Store) (r : Row) (s : Saved) (count : ℕ) : Type 0 where
+  pub saved : IsSaved w r s
+  pub held : AllHeld w r.values.items
+  pub within : count ≤ length r.values.items
+
 -- Saves ..: the list has at least the `count` lowest values of a row; all its values and operations
 -- stay
 pub record Saves (w w' : Store) (old new : Row) (s : Saved) (count : ℕ) : Type 0 where

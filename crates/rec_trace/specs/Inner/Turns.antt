@@ -10,14 +10,18 @@ use Rattle.rec_syntax.specs.Syntax.{Rule, Spec}
 use Rattle.rec_sorts.specs.Binding.{NumberedMatch, Substitution, application}
 use Rattle.rec_sorts.specs.Evaluation.{Call, Caller, Outcome, Done, Over, Match, Eval, first_rule}
 use Rattle.rec_sorts.specs.Numbering.{named_by}
+use Rattle.rec_sorts.specs.SpecRules.{fault}
 use Rattle.rec_sorts.specs.declared.letters.Letter.{Letter}
 use Rattle.rec_engine.specs.Flat.{taken}
 use Rattle.rec_trace.specs.States.{Fits, Move, Give, Invoke, moves}
 use Rattle.rec_trace.specs.Inner.Sides.{HasSide, HasValues, IsMatch, move_of}
 use Rattle.rec_trace.specs.Inner.Spreading.{top_of}
-use Rattle.rec_trace.specs.Rows.{AreGiven, AreSteps, IsClear, floor_of, moves_of}
+use Rattle.rec_trace.specs.Lists.{IsSaved}
+use Rattle.rec_trace.specs.Rows.{AreGiven, AreInRow, AreSteps, IsClear, floor_of, moves_of}
+use Rattle.rec_trace.specs.Rows.{reach_of}
 use Rattle.rec_trace.specs.Tracing.{IsInOrder, moves_at, on_top, result, stack_at}
 use Rattle.rec_trace.specs.declared.row.Step.{Step}
+use Rattle.rec_trace.specs.declared.row.Step.TheVariants as step
 use Rattle.rec_trace.specs.declared.sides.Side.{Side}
 use Rattle.rec_trace.specs.declared.tracer.Event.{Event}
 use Rattle.rec_trace.specs.declared.tracer.Event.TheVariants as event
@@ -27,6 +31,17 @@ use Rattle.rec_trace.specs.declared.tracer.Tracer.{Tracer}
 abbrev pub CanTake : Spec → Store → ℕ → Side → Reference → Type 0
 CanTake y w i side redex = (r : Rule) × (s : Substitution) × IsMatch y i (held_tree w redex) r s
     × HasSide r side × IsSome (tree_at w redex)
+
+-- HasTop y w t: the tracer is in order, and a value is within reach
+pub record HasTop (y : Spec) (w : Store) (t : Tracer) : Type 0 where
+  pub order : IsInOrder y w t
+  pub some : 0 < reach_of t.row
+
+-- CanCall y w t f k: symbol `f` can be called on `k` values on top, before the operations
+pub record CanCall (y : Spec) (w : Store) (t : Tracer) (f k : ℕ) : Type 0 where
+  pub good : fault y ≡ None
+  pub row : AreInRow y w (step.Invoke f k ∷ reverse t.row.steps.items) t.row.values.items
+  pub saved : IsSaved w t.row t.saved
 
 -- CanTurn ms d: there is a move, and `d` values are enough for it
 abbrev pub CanTurn : List Move → ℕ → Type 0

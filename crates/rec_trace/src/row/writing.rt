@@ -1,15 +1,13 @@
 //! Builds the tree of a row: symbols are applied, and none is called.
 
-ghost use Rattle.std.specs.Prelude.{◌≡◌, ◌+◌, IfOk, OnOk, Some, [], length, true, vec_len, IfErr};
+ghost use Rattle.std.specs.Prelude.{◌≡◌, ◌+◌, IfOk, OnOk, Some, length, true, vec_len, IfErr};
 ghost use Rattle.rx_term.specs.Store.{tree_at};
-ghost use Rattle.rx_term.specs.Steps.{Keeps};
 ghost use Rattle.rec_sorts.specs.Evaluation.{Done};
-ghost use Rattle.rec_engine.specs.Engine.{SameEngine};
+ghost use Rattle.rec_trace.specs.Inner.Calls.{Builds};
 ghost use Rattle.rec_trace.specs.Inner.Turns.{CanTurn, Moves};
 ghost use Rattle.rec_trace.specs.Rows.{IsRow, moves_in, stack_in};
 ghost use Rattle.rec_trace.specs.States.{Fits, written};
 ghost use Rattle.rec_engine.specs.declared.engine.errors.EngineFault.TheVariants.{Memory};
-ghost use Rattle.rec_trace.specs.Faults.{RoomOnlyIfFull};
 
 use crate::row::{Row, Step};
 use rec_engine::{Engine, EngineFault};
@@ -41,8 +39,7 @@ impl Row {
         requires row { IsRow engine.old.spec (B.store engine.old.bank) self.old }
         requires can { CanTurn (moves_in engine.old.spec (B.store engine.old.bank) self.old)
             (length (stack_in (B.store engine.old.bank) self.old)) }
-        ensures same { SameEngine engine.old engine.new }
-        ensures keeps { Keeps (B.store engine.old.bank) (B.store engine.new.bank) [] }
+        ensures builds { Builds B.store engine.old engine.new result }
         ensures steps { vec_len self.new.steps + 1 ≡ vec_len self.old.steps }
         ensures row { OnOk result (IsRow engine.old.spec (B.store engine.new.bank) self.new) }
         ensures moves { OnOk result (Moves (λ n u. Done u n) 0 0
@@ -50,7 +47,6 @@ impl Row {
             (stack_in (B.store engine.old.bank) self.old)
             (moves_in engine.old.spec (B.store engine.new.bank) self.new)
             (stack_in (B.store engine.new.bank) self.new) true) }
-        ensures room { RoomOnlyIfFull (B.store engine.new.bank) engine.new.memo result }
     {
         let Some(step) = self.steps.pop() else {
             unreachable!()
@@ -67,12 +63,10 @@ impl Row {
         requires row { IsRow engine.old.spec (B.store engine.old.bank) self.old }
         requires fits { Fits (moves_in engine.old.spec (B.store engine.old.bank) self.old)
             (length (stack_in (B.store engine.old.bank) self.old)) 1 }
-        ensures same { SameEngine engine.old engine.new }
-        ensures keeps { Keeps (B.store engine.old.bank) (B.store engine.new.bank) [] }
+        ensures builds { Builds B.store engine.old engine.new result }
         ensures written { IfOk result (λ t. tree_at (B.store engine.new.bank) t
             ≡ Some (written (moves_in engine.old.spec (B.store engine.old.bank) self.old)
             (stack_in (B.store engine.old.bank) self.old))) }
-        ensures room { RoomOnlyIfFull (B.store engine.new.bank) engine.new.memo result }
     {
         'steps: while self.steps.len() > 0 {
             self.write_step(engine)?;

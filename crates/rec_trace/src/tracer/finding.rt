@@ -7,16 +7,14 @@ ghost use Rattle.rx_term.specs.Tree.{list_of, none, tree_eq};
 ghost use Rattle.rec_syntax.specs.Syntax.{Rule};
 ghost use Rattle.rec_sorts.specs.Binding.{Substitution, next_match};
 ghost use Rattle.rec_sorts.specs.Evaluation.{Eval, Holds, first_rule};
-ghost use Rattle.rec_engine.specs.Engine.{SameEngine};
-ghost use Rattle.rec_trace.specs.Lists.{Stays};
+ghost use Rattle.rec_trace.specs.Inner.Calls.{Relists};
 ghost use Rattle.rec_trace.specs.Rows.{IsClear, reach_of};
 ghost use Rattle.rec_trace.specs.Inner.Sides.{IsMatch, no_condition};
-ghost use Rattle.rec_trace.specs.Inner.Turns.{HasCondition, IsBound, number_of};
+ghost use Rattle.rec_trace.specs.Inner.Turns.{HasCondition, HasTop, IsBound, number_of};
 ghost use Rattle.rec_trace.specs.Tracing.{AreAnswered, IsFound, IsInOrder, moves_at, on_top};
 ghost use Rattle.rec_trace.specs.Tracing.{stack_at};
 ghost use Rattle.rec_trace.specs.declared.tracer.Found.TheVariants as found;
 ghost use Rattle.rec_engine.specs.declared.engine.errors.EngineFault.TheVariants.{Memory};
-ghost use Rattle.rec_trace.specs.Faults.{RoomOnlyIfFull};
 
 use crate::sides::Side;
 use crate::tracer::{Found, Tracer};
@@ -32,20 +30,17 @@ impl Tracer {
         rule: u32,
         i: usize,
     ) -> Result<Option<bool>, EngineFault>
-        requires order { IsInOrder engine.old.spec (B.store engine.old.bank) self.old }
-        requires some { 0 < reach_of self.old.row }
+        requires top { HasTop engine.old.spec (B.store engine.old.bank) self.old }
         requires can { HasCondition engine.old.spec (stack_at (B.store engine.old.bank) self.old)
             rule i }
-        ensures same { SameEngine engine.old engine.new }
-        ensures stays { Stays (B.store engine.old.bank) (B.store engine.new.bank)
-            self.old.saved.list self.new.saved.list }
+        ensures relists { Relists B.store engine.old engine.new self.old.saved.list
+            self.new.saved.list result }
         ensures answers { IfOk result (λ answer. (r : Rule) (s : Substitution)
             → IsMatch engine.old.spec rule
             (on_top (stack_at (B.store engine.old.bank) self.old)) r s
             → AreAnswered engine.old.spec (B.store engine.old.bank) (B.store engine.new.bank)
             self.old self.new (Holds engine.old.spec self.old.left s
             (get_or r.conditions i no_condition ∷ [])) answer) }
-        ensures room { RoomOnlyIfFull (B.store engine.new.bank) engine.new.memo result }
     {
         let redex = self.row.top();
         if !self.side(engine, rule, Side::Left(i), redex)? {
@@ -97,19 +92,16 @@ impl Tracer {
         engine: &mut Engine<B>,
         rule: u32,
     ) -> Result<Option<bool>, EngineFault>
-        requires order { IsInOrder engine.old.spec (B.store engine.old.bank) self.old }
-        requires some { 0 < reach_of self.old.row }
+        requires top { HasTop engine.old.spec (B.store engine.old.bank) self.old }
         requires can { (r : Rule) × (s : Substitution) × IsMatch engine.old.spec rule
             (on_top (stack_at (B.store engine.old.bank) self.old)) r s }
-        ensures same { SameEngine engine.old engine.new }
-        ensures stays { Stays (B.store engine.old.bank) (B.store engine.new.bank)
-            self.old.saved.list self.new.saved.list }
+        ensures relists { Relists B.store engine.old engine.new self.old.saved.list
+            self.new.saved.list result }
         ensures answers { IfOk result (λ answer. (r : Rule) (s : Substitution)
             → IsMatch engine.old.spec rule
             (on_top (stack_at (B.store engine.old.bank) self.old)) r s
             → AreAnswered engine.old.spec (B.store engine.old.bank) (B.store engine.new.bank)
             self.old self.new (Holds engine.old.spec self.old.left s r.conditions) answer) }
-        ensures room { RoomOnlyIfFull (B.store engine.new.bank) engine.new.memo result }
     {
         let count = engine.checked().rules()[rule as usize].conditions.len();
         for i in 0..count {
@@ -130,15 +122,13 @@ impl Tracer {
         engine: &mut Engine<B>,
         rule: u32,
     ) -> Result<Option<bool>, EngineFault>
-        requires order { IsInOrder engine.old.spec (B.store engine.old.bank) self.old }
-        requires some { 0 < reach_of self.old.row }
+        requires top { HasTop engine.old.spec (B.store engine.old.bank) self.old }
         requires can { (r : Rule) × (s : Substitution) × IsMatch engine.old.spec rule
             (on_top (stack_at (B.store engine.old.bank) self.old)) r s }
         requires bound { IsBound engine.old.spec (B.store engine.old.bank) self.old rule
             self.old.bind.items }
-        ensures same { SameEngine engine.old engine.new }
-        ensures stays { Stays (B.store engine.old.bank) (B.store engine.new.bank)
-            self.old.saved.list self.new.saved.list }
+        ensures relists { Relists B.store engine.old engine.new self.old.saved.list
+            self.new.saved.list result }
         ensures answers { IfOk result (λ answer. (r : Rule) (s : Substitution)
             → IsMatch engine.old.spec rule
             (on_top (stack_at (B.store engine.old.bank) self.old)) r s
@@ -146,7 +136,6 @@ impl Tracer {
             self.old self.new (Holds engine.old.spec self.old.left s r.conditions) answer) }
         ensures bound { IfOk result (λ answer. answer ≡ Some true
             → IsBound engine.old.spec (B.store engine.new.bank) self.new rule self.new.bind.items) }
-        ensures room { RoomOnlyIfFull (B.store engine.new.bank) engine.new.memo result }
     {
         if engine.checked().rules()[rule as usize].conditions.len() == 0 {
             return Ok(Some(true));
@@ -168,8 +157,7 @@ impl Tracer {
         engine: &Engine<B>,
         from: u32,
     ) -> Result<Option<u32>, EngineFault>
-        requires order { IsInOrder engine.now.spec (B.store engine.now.bank) self.old }
-        requires some { 0 < reach_of self.old.row }
+        requires top { HasTop engine.now.spec (B.store engine.now.bank) self.old }
         ensures row { self.new.row ≡ self.old.row }
         ensures saved { self.new.saved ≡ self.old.saved }
         ensures left { self.new.left ≡ self.old.left }
@@ -191,18 +179,15 @@ impl Tracer {
 
     /// Finds the rule that applies to the tree on top, and its values.
     pub(super) fn find<B: TermBank>(&mut self, engine: &mut Engine<B>) -> Result<Found, EngineFault>
-        requires order { IsInOrder engine.old.spec (B.store engine.old.bank) self.old }
-        requires some { 0 < reach_of self.old.row }
-        ensures same { SameEngine engine.old engine.new }
-        ensures stays { Stays (B.store engine.old.bank) (B.store engine.new.bank)
-            self.old.saved.list self.new.saved.list }
+        requires top { HasTop engine.old.spec (B.store engine.old.bank) self.old }
+        ensures relists { Relists B.store engine.old engine.new self.old.saved.list
+            self.new.saved.list result }
         ensures found { IfOk result (IsFound engine.old.spec (B.store engine.old.bank)
             (B.store engine.new.bank) self.old self.new
             (first_rule engine.old.spec (Eval engine.old.spec) engine.old.spec.rules self.old.left
             (on_top (stack_at (B.store engine.old.bank) self.old)))) }
         ensures bound { IfOk result (λ f. (i : ℕ) → f ≡ found.Rule i
             → IsBound engine.old.spec (B.store engine.new.bank) self.new i self.new.bind.items) }
-        ensures room { RoomOnlyIfFull (B.store engine.new.bank) engine.new.memo result }
     {
         let mut from = 0;
         'rules: while let Some(rule) = self.next_rule(engine, from)? {

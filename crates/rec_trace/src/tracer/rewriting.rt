@@ -1,10 +1,10 @@
 //! Builds contracta and whole terms, in rows other than the tracer's own.
 
-ghost use Rattle.std.specs.Prelude.{◌≡◌, [], IfOk, Some};
+ghost use Rattle.std.specs.Prelude.{◌≡◌, IfOk, Some};
 ghost use Rattle.rx_term.specs.Tree.{Tree};
 ghost use Rattle.rx_term.specs.Store.{tree_at};
-ghost use Rattle.rx_term.specs.Steps.{Keeps};
 ghost use Rattle.rec_engine.specs.Engine.{SameEngine};
+ghost use Rattle.rec_trace.specs.Inner.Calls.{Builds};
 ghost use Rattle.rec_trace.specs.Lists.{Stays};
 ghost use Rattle.rec_trace.specs.Tracing.{Rewrites, Stands, rest_of, whole_of};
 ghost use Rattle.rec_trace.specs.Faults.{RoomOnlyIfFull};
@@ -76,15 +76,13 @@ impl Tracer {
         requires redex { (u : Tree) × (v : Tree)
             × (tree_at (B.store engine.old.bank) redex ≡ Some u)
             × Rewrites engine.old.spec rule u v }
-        ensures same { SameEngine engine.old engine.new }
-        ensures keeps { Keeps (B.store engine.old.bank) (B.store engine.new.bank) [] }
+        ensures builds { Builds B.store engine.old engine.new result }
         ensures row { self.new.row ≡ self.old.row }
         ensures saved { self.new.saved ≡ self.old.saved }
         ensures left { self.new.left ≡ self.old.left }
         ensures contractum { IfOk result (λ t. (u v : Tree)
             → tree_at (B.store engine.old.bank) redex ≡ Some u → Rewrites engine.old.spec rule u v
             → tree_at (B.store engine.new.bank) t ≡ Some v) }
-        ensures room { RoomOnlyIfFull (B.store engine.new.bank) engine.new.memo result }
     {
         let mut apart = Row::of_steps(alloc, Vec::new(alloc));
         apart.give(redex)?;

@@ -1,23 +1,18 @@
 //! Executes operations with calls, to evaluate the sides of conditions.
 
-ghost use Rattle.std.specs.Prelude.{◌≡◌, ◌≤◌, ◌+◌, ◌-◌, ◌∷◌, None, IfOk, OnOk, length, reverse};
+ghost use Rattle.std.specs.Prelude.{◌≡◌, ◌≤◌, ◌-◌, None, IfOk, OnOk, length};
 ghost use Rattle.std.specs.Prelude.{take, true, vec_len};
 ghost use Rattle.rx_term.specs.Walks.{held_tree};
 ghost use Rattle.rec_syntax.specs.Syntax.{Rule};
 ghost use Rattle.rec_sorts.specs.Binding.{Substitution};
 ghost use Rattle.rec_sorts.specs.Evaluation.{Call, evaluate};
 ghost use Rattle.rec_sorts.specs.Numbering.{name_of};
-ghost use Rattle.rec_sorts.specs.SpecRules.{fault};
 ghost use Rattle.rec_sorts.specs.declared.letters.Meaning.TheVariants.{Symbol};
-ghost use Rattle.rec_engine.specs.Engine.{SameEngine};
+ghost use Rattle.rec_trace.specs.Inner.Calls.{Relists};
 ghost use Rattle.rec_trace.specs.Inner.Sides.{IsMatch, side_of};
-ghost use Rattle.rec_trace.specs.Inner.Turns.{CanTake, CanTurn, HasCalled, HasRun, Turns};
-ghost use Rattle.rec_trace.specs.Lists.{IsSaved, Stays};
-ghost use Rattle.rec_trace.specs.Rows.{AreInRow};
+ghost use Rattle.rec_trace.specs.Inner.Turns.{CanCall, CanTake, CanTurn, HasCalled, HasRun, Turns};
 ghost use Rattle.rec_trace.specs.States.{Fits};
 ghost use Rattle.rec_trace.specs.Tracing.{Gives, IsInOrder, moves_at, stack_at};
-ghost use Rattle.rec_trace.specs.declared.row.Step.TheVariants as step;
-ghost use Rattle.rec_trace.specs.Faults.{RoomOnlyIfFull};
 
 use crate::row::Step;
 use crate::sides::Side;
@@ -34,19 +29,13 @@ impl Tracer {
         symbol: u32,
         count: u32,
     ) -> Result<bool, EngineFault>
-        requires good { fault engine.old.spec ≡ None }
-        requires row { AreInRow engine.old.spec (B.store engine.old.bank)
-            (step.Invoke symbol count ∷ reverse self.old.row.steps.items)
-            self.old.row.values.items }
-        requires saved { IsSaved (B.store engine.old.bank) self.old.row self.old.saved }
-        ensures same { SameEngine engine.old engine.new }
-        ensures stays { Stays (B.store engine.old.bank) (B.store engine.new.bank)
-            self.old.saved.list self.new.saved.list }
+        requires can { CanCall engine.old.spec (B.store engine.old.bank) self.old symbol count }
+        ensures relists { Relists B.store engine.old engine.new self.old.saved.list
+            self.new.saved.list result }
         ensures steps { OnOk result (self.new.row.steps ≡ self.old.row.steps) }
         ensures comes { IfOk result (λ more. HasCalled engine.old.spec (B.store engine.old.bank)
             (B.store engine.new.bank) self.old self.new
             (name_of engine.old.spec (Symbol symbol)) count more) }
-        ensures room { RoomOnlyIfFull (B.store engine.new.bank) engine.new.memo result }
     {
         let at = self.row.values.len() - count as usize;
         self.saved.save(engine, &mut self.row, at)?;
@@ -71,14 +60,12 @@ impl Tracer {
         requires order { IsInOrder engine.old.spec (B.store engine.old.bank) self.old }
         requires fits { CanTurn (moves_at engine.old.spec (B.store engine.old.bank) self.old)
             (length (stack_at (B.store engine.old.bank) self.old)) }
-        ensures same { SameEngine engine.old engine.new }
-        ensures stays { Stays (B.store engine.old.bank) (B.store engine.new.bank)
-            self.old.saved.list self.new.saved.list }
+        ensures relists { Relists B.store engine.old engine.new self.old.saved.list
+            self.new.saved.list result }
         ensures steps { OnOk result (self.new.row.steps.items
             ≡ take (length self.old.row.steps.items - 1) self.old.row.steps.items) }
         ensures turns { IfOk result (λ more. Turns (Call engine.old.spec) engine.old.spec
             (B.store engine.old.bank) (B.store engine.new.bank) self.old self.new more) }
-        ensures room { RoomOnlyIfFull (B.store engine.new.bank) engine.new.memo result }
     {
         let Some(step) = self.row.steps.pop() else {
             unreachable!()
@@ -107,15 +94,13 @@ impl Tracer {
         requires floor { floor ≤ vec_len self.old.row.steps }
         requires fits { Fits (take (vec_len self.old.row.steps - floor)
             (moves_at engine.old.spec (B.store engine.old.bank) self.old)) 0 1 }
-        ensures same { SameEngine engine.old engine.new }
-        ensures stays { Stays (B.store engine.old.bank) (B.store engine.new.bank)
-            self.old.saved.list self.new.saved.list }
+        ensures relists { Relists B.store engine.old engine.new self.old.saved.list
+            self.new.saved.list result }
         ensures gives { IfOk result (λ more. HasRun (Call engine.old.spec) engine.old.spec
             (B.store engine.old.bank) (B.store engine.new.bank) self.old self.new
             (vec_len self.old.row.steps - floor) more) }
         ensures steps { IfOk result (λ more. more ≡ true
             → self.new.row.steps.items ≡ take floor self.old.row.steps.items) }
-        ensures room { RoomOnlyIfFull (B.store engine.new.bank) engine.new.memo result }
     {
         'steps: while self.row.steps.len() > floor {
             if !self.turn(engine)? {
@@ -136,14 +121,12 @@ impl Tracer {
     ) -> Result<bool, EngineFault>
         requires order { IsInOrder engine.old.spec (B.store engine.old.bank) self.old }
         requires can { CanTake engine.old.spec (B.store engine.old.bank) rule side redex }
-        ensures same { SameEngine engine.old engine.new }
-        ensures stays { Stays (B.store engine.old.bank) (B.store engine.new.bank)
-            self.old.saved.list self.new.saved.list }
+        ensures relists { Relists B.store engine.old engine.new self.old.saved.list
+            self.new.saved.list result }
         ensures gives { IfOk result (λ more. (r : Rule) (s : Substitution)
             → IsMatch engine.old.spec rule (held_tree (B.store engine.old.bank) redex) r s
             → Gives engine.old.spec (B.store engine.old.bank) (B.store engine.new.bank) self.old
             self.new (evaluate (Call engine.old.spec) self.old.left s (side_of r side)) more) }
-        ensures room { RoomOnlyIfFull (B.store engine.new.bank) engine.new.memo result }
     {
         let floor = self.row.steps.len();
         self.row.give(redex)?;

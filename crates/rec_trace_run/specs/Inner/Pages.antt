@@ -1,5 +1,5 @@
 -- Texts that are written to an output, with a count of the line ends, and the causes of errors.
-use Rattle.std.specs.Prelude.{ℕ, ◌≡◌, ◌+◌, List, IfErr, Option, Result}
+use Rattle.std.specs.Prelude.{ℕ, ◌≡◌, ◌+◌, List, IfErr, OnOk, Option, Result}
 use Rattle.std.specs.FinMap as map
 use Rattle.rx_term.specs.Store.{Store, cells}
 use Rattle.rx_text.specs.Output.{Writes, contents_of}
@@ -27,6 +27,12 @@ abbrev pub Breaks : {W : Type 0} → (W → Option (List ℕ)) → Page W → Pa
     → Type 0
 Breaks contents old new text fault = StopsAfter old.lines fault text
     (contents_of contents old.out.now) (contents_of contents new.out.now)
+
+-- a text was written, or a prefix of it before the error
+pub record WritesText {W T : Type 0} (contents : W → Option (List ℕ)) (old new : Page W)
+    (text : List ℕ) (r : Result T RunFault) : Type 0 where
+  pub ok : OnOk r (Prints contents old new text)
+  pub err : IfErr r (Breaks contents old new text)
 
 -- the cause of an error while a text is written: an allocation failed, or the writer did
 abbrev pub IsPageCause : RunFault → Type 0

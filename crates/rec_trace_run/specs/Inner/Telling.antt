@@ -1,14 +1,19 @@
 -- How the events of a tracer become the lines of a trace.
-use Rattle.std.specs.Prelude.{ℕ, zero, suc, ◌-◌, ◌≡◌, ◌≤◌, ◌==◌, ◌++◌, ◌∷◌, Bool, true, false, List}
-use Rattle.std.specs.Prelude.{[], Option}
-use Rattle.std.specs.Prelude.{Some, None, Vec, codes, decimal, drop, flat_map, if◌then◌else◌}
-use Rattle.std.specs.Prelude.{length, map}
+use Rattle.std.specs.Prelude.{ℕ, ◌-◌, ◌≡◌, ◌<◌, ◌≤◌, ◌++◌, ◌∷◌, Bool, true, false, List, []}
+use Rattle.std.specs.Prelude.{Option, Some, None, Vec, codes, decimal, drop, flat_map}
+use Rattle.std.specs.Prelude.{if◌then◌else◌, length, map, take}
 use Rattle.std.specs.Option.{option_to_list}
 use Rattle.std.specs.declared.alloc.Global.{Global}
 use Rattle.rx_term.specs.Tree.{Tree, annotations}
 use Rattle.rx_term.specs.Store.{Store, tree_at}
 use Rattle.rx_text.specs.Canon.{canon}
 use Rattle.rec_syntax.specs.Syntax.{Spec, Term}
+use Rattle.rec_engine.specs.Engine.{Spells}
+use Rattle.rec_run.specs.Reading.{term_at}
+use Rattle.rec_sorts.specs.SpecRules.{fault}
+use Rattle.rec_trace_run.specs.declared.beginning.Beginning.{Beginning}
+use Rattle.rec_trace_run.specs.declared.beginning.Beginning.TheVariants.{Eval, Given}
+use Rattle.rec_trace_run.specs.declared.section.Section.{Section}
 use Rattle.rec_sorts.specs.Binding.{tree_of}
 use Rattle.rec_sorts.specs.Evaluation as evaluation
 use Rattle.rec_sorts.specs.Laws.{Every}
@@ -20,19 +25,15 @@ use Rattle.rec_engine.specs.declared.engine.Outcome.TheVariants.{Value, Limit}
 use Rattle.rx_run.specs.Due.{steps_text}
 use Rattle.rec_run.specs.GivenTerms.{item_at}
 use Rattle.rec_run.specs.Output.{given_task, notes_text}
-use Rattle.rec_trace.specs.Lines.{joined, whole_text}
+use Rattle.rec_trace.specs.Lines.{whole_text}
 use Rattle.rec_trace.specs.States.{firing_then}
 use Rattle.rec_trace.specs.Trace.{Firing, Trace, Traced}
 use Rattle.rec_trace.specs.Tracing.{Stands, rest_of, whole_of}
 use Rattle.rec_trace.specs.declared.tracer.Tracer.{Tracer}
-use Rattle.rec_trace_run.specs.Picks.{Picks, back_count, front_lines, left_out_count, picks_by}
-use Rattle.rec_trace_run.specs.Picks.{rest_lines, shown_lines}
+use Rattle.rec_trace_run.specs.Picks.{Picks, picks_by}
 use Rattle.rec_trace.specs.Lines.{rule_spot}
 use Rattle.rec_trace_run.specs.Traces.{Shown, picked_lines, shown_by, task_text}
 use Rattle.rec_trace_run.specs.declared.given.GivenTerms.{GivenTerms}
-use Rattle.rec_trace_run.specs.declared.kept.Kept.{Kept}
-use Rattle.rec_trace_run.specs.declared.kept.Place.{Place}
-use Rattle.rec_trace_run.specs.declared.kept.Place.TheVariants.{Front, Behind, Nowhere}
 use Rattle.rec_trace_run.specs.declared.next.TracePart.{TracePart}
 use Rattle.rec_trace_run.specs.declared.next.TracePart.TheVariants.{Rewrite, End}
 use Rattle.rec_trace_run.specs.declared.options.TraceOptions.{TraceOptions}
@@ -42,10 +43,9 @@ use Rattle.rec_trace_run.specs.declared.telling.Telling.{Telling}
 abbrev pub IsTelling : List ℕ → Spec → Telling → Type 0
 IsTelling source y t = t.spots.items ≡ map (rule_spot source) y.rules
 
--- the text that is written for rewrites
-abbrev pub steps_lines : List ℕ → Shown → ℕ → List Firing → List ℕ
-steps_lines source shown n fs =
-    joined (shown_lines shown.picked (picked_lines source shown n fs))
+-- the lines of the selected rewrites of a term
+abbrev pub lines_of : List ℕ → Spec → TraceOptions → Term → List (List ℕ)
+lines_of source y o t = picked_lines source (shown_by o) o.run.steps (Trace y o.run.steps t).firings
 
 -- the line of the outcome of a term, with the text of its annotations
 abbrev pub end_line : Bool → ℕ → List ℕ → evaluation.Outcome Tree → List ℕ
@@ -53,42 +53,34 @@ end_line counted n notes (evaluation.Done v left) =
     canon v ++ notes ++ steps_text counted (n - left) ++ codes "\n"
 end_line counted n notes evaluation.Over = codes "!limit " ++ decimal n ++ codes "\n"
 
--- the text that is written for rewrites and their outcome
-abbrev pub told : List ℕ → Shown → ℕ → List ℕ → Traced Tree → List ℕ
-told source shown n notes t = steps_lines source shown n t.firings
-    ++ end_line shown.counted n notes t.outcome
-
--- the lines at the beginning that `ls` adds after the lines `before`
-abbrev pub fresh_lines : Picks → List (List ℕ) → List (List ℕ) → List (List ℕ)
-fresh_lines p before ls = drop (length (front_lines p before)) (front_lines p (before ++ ls))
-
--- all lines that are still to be written if `ls` follows the lines `before`
-abbrev pub lines_behind : Picks → List (List ℕ) → List (List ℕ) → List (List ℕ)
-lines_behind p before ls = drop (length (front_lines p before)) (shown_lines p (before ++ ls))
-
--- the text that is still to be written for the rest of a trace
-abbrev pub told_behind : List ℕ → Shown → ℕ → List ℕ → List (List ℕ) → Traced Tree → List ℕ
-told_behind source shown n notes before t =
-    joined (lines_behind shown.picked before (picked_lines source shown n t.firings))
-    ++ end_line shown.counted n notes t.outcome
-
--- the number of lines that are still to be written at once after `k` lines; all with `None`
-abbrev pub front_left : Picks → ℕ → Option ℕ
-front_left p k = elim p.first [
-  | Some n ↦ Some (n - k)
+-- the largest number of lines that are shown at the beginning; all with `None`
+abbrev pub front_most : Picks → Option ℕ
+front_most p = elim p.first [
+  | Some n ↦ Some n
   | None ↦ elim p.last [ Some n ↦ Some 0 | None ↦ None ]
 ]
+
+-- the lines with the numbers `from`, .. below `upto`; with `None`, all from `from` on
+abbrev pub lines_between : ℕ → Option ℕ → List (List ℕ) → List (List ℕ)
+lines_between from upto ls = drop from (elim upto [ Some n ↦ take n ls | None ↦ ls ])
+
+-- the lines of a section of the selected rewrites
+abbrev pub section_lines : Section → List (List ℕ) → List (List ℕ)
+section_lines s ls = lines_between s.from s.upto ls
+
+-- both sections have the same rewrites
+pub record HasBounds (old new : Section) : Type 0 where
+  pub from : new.from ≡ old.from
+  pub upto : new.upto ≡ old.upto
+
+-- a section has the line after those that were counted if and only if `here`
+abbrev pub AddsIf : Section → Bool → Type 0
+AddsIf s here = (ls : List (List ℕ)) (l : List ℕ) → s.seen ≡ length ls
+    → section_lines s (ls ++ l ∷ []) ≡ section_lines s ls ++ (if here then l ∷ [] else [])
 
 -- the texts of lines
 abbrev pub texts_of : List (Vec ℕ Global) → List (List ℕ)
 texts_of lines = map (λ (line : Vec ℕ Global). line.items) lines
-
--- the state after the lines `ls` of the selected rewrites so far
-pub record HasKept (p : Picks) (ls : List (List ℕ)) (k : Kept) : Type 0 where
-  pub front : k.front ≡ front_left p (length ls)
-  pub most : k.most ≡ back_count p
-  pub last : texts_of k.last.items ≡ drop (left_out_count p ls) (rest_lines p ls)
-  pub left_out : k.left_out ≡ left_out_count p ls
 
 -- at most `n` steps are left at the end
 abbrev pub LeavesWithin : ℕ → evaluation.Outcome Tree → Type 0
@@ -117,44 +109,46 @@ end_text w counted n notes (Value t steps) =
     canon (item_at w t) ++ notes ++ steps_text counted steps
 end_text w counted n notes Limit = codes "!limit " ++ decimal n
 
--- the destination of a term's next line
-abbrev pub place_of : Kept → Place
-place_of k = elim k.front [
-  | None ↦ Front
-  | Some left ↦ elim left [
-    | zero ↦ if k.most == 0 then Nowhere else Behind
-    | suc more ↦ Front
-  ]
-]
-
--- the state after one more rewrite, with the line that this adds at the beginning, if it adds one
+-- a section after one more rewrite, with the line that is written for it, if one is
 pub record TakesUp (source : List ℕ) (options : TraceOptions) (before : List (List ℕ)) (f : Firing)
-    (kept : Kept) (line : Option (Vec ℕ Global)) : Type 0 where
-  pub kept_on : HasKept (picks_by options.picked)
-      (before ++ picked_lines source (shown_by options) options.run.steps (f ∷ [])) kept
-  pub fresh : fresh_lines (picks_by options.picked) before
-      (picked_lines source (shown_by options) options.run.steps (f ∷ []))
-      ≡ texts_of (option_to_list line)
+    (old new : Section) (line : Option (Vec ℕ Global)) : Type 0 where
+  pub counted : new.seen
+      ≡ length (before ++ picked_lines source (shown_by options) options.run.steps (f ∷ []))
+  pub lines : section_lines old
+      (before ++ picked_lines source (shown_by options) options.run.steps (f ∷ []))
+      ≡ section_lines old before ++ texts_of (option_to_list line)
 
--- a rule was applied, and its rewrite was recorded; `line` is the line that this adds at the
--- beginning, if it adds one
+-- a rule was applied, and its rewrite was counted; `line` is the line that is written for it, if
+-- one is
 pub record HasTold (y : Spec) (w w' : Store) (old new : Tracer) (telling : Telling)
-    (kept kept' : Kept) (line : Option (Vec ℕ Global)) : Type 0 where
+    (section section' : Section) (line : Option (Vec ℕ Global)) : Type 0 where
   pub firing : Firing
   pub next : rest_of y w old ≡ firing_then firing (rest_of y w' new)
   pub stands : Stands y w' new
+  pub bounds : HasBounds section section'
   pub told : (source : List ℕ) (before : List (List ℕ)) → IsTelling source y telling
-      → HasKept (picks_by telling.options.picked) before kept
-      → TakesUp source telling.options before firing kept' line
+      → section.seen ≡ length before
+      → TakesUp source telling.options before firing section section' line
 
--- the next part of a trace: a rewrite that was recorded; or, if no rewrite is left, the outcome
-abbrev pub IsPart : Spec → Store → Store → Tracer → Tracer → Telling → Kept → Kept → TracePart
-    → Type 0
-IsPart y w w' old new telling kept kept' (Rewrite line) =
-    HasTold y w w' old new telling kept kept' line
-IsPart y w w' old new telling kept kept' (End o) = (kept' ≡ kept)
+-- the next part of a trace: a rewrite; or, if no rewrite is left, the outcome
+abbrev pub IsPart : Spec → Store → Store → Tracer → Tracer → Telling → Section → Section
+    → TracePart → Type 0
+IsPart y w w' old new telling section section' (Rewrite line) =
+    HasTold y w w' old new telling section section' line
+IsPart y w w' old new telling section section' (End o) = (section' ≡ section)
     × ((rest_of y w old).firings ≡ [])
     × IsEnd w' telling.options.run.steps (rest_of y w old).outcome o
+
+-- a term is the one that is traced
+abbrev pub IsTermOf : Spec → Beginning → Term → Type 0
+IsTermOf y (Eval i) t = (i < length y.terms) × (t ≡ term_at y i)
+IsTermOf y (Given letters) t =
+    (u : Tree) × Spells y letters.now u × (t ≡ evaluation.term_of u)
+
+-- the outcome of a term's trace; the specification violates no rule
+pub record EndsIn (y : Spec) (w : Store) (n : ℕ) (t : Term) (o : Outcome) : Type 0 where
+  pub good : fault y ≡ None
+  pub outcome : IsEnd w n (Trace y n t).outcome o
 
 -- a tracer is at the beginning of a term's trace
 pub record Begins (y : Spec) (w : Store) (n : ℕ) (tracer : Tracer) (t : Term) : Type 0 where

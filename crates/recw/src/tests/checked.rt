@@ -157,9 +157,59 @@ const TWICE: Shelf = Shelf {
 };
 
 #[test]
-fn writes_lines_of_joined_texts_on_a_terminal(rt: HostRuntime) {
+fn explains_joined_texts_on_a_terminal(rt: HostRuntime) {
     let words = &["check", "--join", "terms", "spec"];
     let ran = run_before(&TWICE, rt.alloc(), words, &mut "".as_bytes(), true);
-    let wanted = "spec:1:18: error: duplicate sort: A: terms:1:18 [S1]\n";
+    let wanted = "spec:1:18: \u{1b}[1;31merror:\u{1b}[0m duplicate sort: A: terms:1:18 [S1]\n    \
+         REC-SPEC E SORTS A CONS OPNS VARS RULES EVAL END-SPEC\n                     ^\n";
     assert!(rt; ran.out() == wanted, "{}", ran.out());
 }
+
+/// A specification that needs the sort and the constructor of another.
+pub(crate) const PARTS: Shelf = Shelf {
+    spec: "REC-SPEC M SORTS CONS OPNS g : N -> N VARS X : N RULES\n\
+        g(X) -> zeor EVAL END-SPEC",
+    terms: "REC-SPEC P SORTS N\nCONS zero : -> N OPNS VARS RULES EVAL END-SPEC",
+};
+
+/// Findings in joined texts, each in its own file.
+pub(crate) const JOINED: &[Row] = &[
+    (
+        &["check", "--join", "terms", "spec"],
+        "",
+        1,
+        "spec:2:9: error: undeclared symbol or variable in RULES or EVAL: zeor [S5]\n",
+        "",
+    ),
+    (
+        &["check", "--explain", "--join", "terms", "spec"],
+        "",
+        1,
+        "spec:2:9: error: undeclared symbol or variable in RULES or EVAL: zeor [S5]\n    \
+         g(X) -> zeor EVAL END-SPEC\n            ^\n    did you mean `zero`?\n",
+        "",
+    ),
+    (
+        &["check", "--join=terms", "--format=json", "spec"],
+        "",
+        1,
+        "{\"file\":\"spec\",\"line\":2,\"column\":9,\"end_line\":2,\"end_column\":13,\
+         \"severity\":\"error\",\"code\":\"S5\",\
+         \"message\":\"undeclared symbol or variable in RULES or EVAL: zeor\",\
+         \"expected\":[],\"suggestion\":\"zero\"}\n",
+        "",
+    ),
+    (
+        &["check", "--join", "terms", "--format", "json", "terms"],
+        "",
+        1,
+        "{\"file\":\"terms\",\"line\":1,\"column\":18,\"end_line\":1,\"end_column\":19,\
+         \"severity\":\"error\",\"code\":\"S1\",\"message\":\"duplicate sort: N: terms:1:18\",\
+         \"expected\":[],\"suggestion\":null}\n\
+         {\"file\":\"terms\",\"line\":2,\"column\":6,\"end_line\":2,\"end_column\":10,\
+         \"severity\":\"error\",\"code\":\"S2\",\
+         \"message\":\"duplicate symbol in CONS and OPNS, even with other sorts: zero: terms:2:6\",\
+         \"expected\":[],\"suggestion\":null}\n",
+        "",
+    ),
+];

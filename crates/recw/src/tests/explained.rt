@@ -106,7 +106,7 @@ const CUT_OFF_THERE: &str = "recw: spec G at byte 27\n\
 
 /// The explanation if three cells are not enough.
 const OUT_OF_CELLS: &str =
-    "recw: out of cells\nthe store limit is 3 cells; raise it with --cells\n";
+    "recw: out of cells\nterm 1: the store limit is 3 cells; raise it with --cells\n";
 
 /// The explanations of texts on standard input.
 pub(crate) const INPUTS: &[Row] = &[

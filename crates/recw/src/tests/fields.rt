@@ -1,23 +1,24 @@
 //! Tests that each option sets its field.
 
-use recw_cli::{Asked, EvalOptions, Request, read_words};
+use recw_cli::{Asked, EvalOptions, Request, TermChoice, read_words};
 use std::alloc::Global;
 use std::process::Abort;
 use std::rt::Files;
 
-/// The call-depth limit and the largest number of bytes of a result, if there are any.
-type Bounds = (Option<u32>, Option<u64>);
+/// The call-depth limit, the largest number of bytes of a result and the largest number of nodes of
+/// its graph, if there are any, and the terms that are evaluated.
+type Bounds = (Option<u32>, Option<u64>, Option<u32>, TermChoice);
 
 /// Options; the expected numbers; the expected flags for step counts, annotations of limit lines,
-/// stuck calls, profile and progress; and the call-depth limit and the bytes of a result.
-type Row = (&'static [&'static str], [u64; 4], [bool; 5], Bounds);
+/// stuck calls, profile, progress, tables and sizes; the limits and the terms.
+type Row = (&'static [&'static str], [u64; 4], [bool; 7], Bounds);
 
-const OPTIONS: [Row; 4] = [
+const OPTIONS: [Row; 9] = [
     (
         &["eval"],
         [1_000_000, 16_777_216, 65_536, 262_144],
-        [false, false, false, false, false],
-        (None, None),
+        [false, false, false, false, false, false, false],
+        (None, None, None, TermChoice::All),
     ),
     (
         &[
@@ -39,8 +40,8 @@ const OPTIONS: [Row; 4] = [
             "--progress",
         ],
         [11, 12, 13, 14],
-        [true, false, false, true, true],
-        (Some(15), Some(16)),
+        [true, false, false, true, true, false, false],
+        (Some(15), Some(16), None, TermChoice::All),
     ),
     (
         &[
@@ -56,14 +57,44 @@ const OPTIONS: [Row; 4] = [
             "--bytes=0",
         ],
         [21, 22, 23, 24],
-        [false, true, false, false, false],
-        (Some(0), Some(0)),
+        [false, true, false, false, false, false, false],
+        (Some(0), Some(0), None, TermChoice::All),
     ),
     (
         &["eval", "--stuck"],
         [1_000_000, 16_777_216, 65_536, 262_144],
-        [false, false, true, false, false],
-        (None, None),
+        [false, false, true, false, false, false, false],
+        (None, None, None, TermChoice::All),
+    ),
+    (
+        &["eval", "--only-terms", "-e", "z"],
+        [1_000_000, 16_777_216, 65_536, 262_144],
+        [false, false, false, false, false, false, false],
+        (None, None, None, TermChoice::Input),
+    ),
+    (
+        &["eval", "--term", "1000000000000000000"],
+        [1_000_000, 16_777_216, 65_536, 262_144],
+        [false, false, false, false, false, false, false],
+        (None, None, None, TermChoice::Nth(1_000_000_000_000_000_000)),
+    ),
+    (
+        &["eval", "--to-table", "--sizes"],
+        [1_000_000, 16_777_216, 65_536, 262_144],
+        [false, false, false, false, false, true, true],
+        (None, None, None, TermChoice::All),
+    ),
+    (
+        &["eval", "--dot", "5"],
+        [1_000_000, 16_777_216, 65_536, 262_144],
+        [false, false, false, false, false, false, false],
+        (None, None, Some(2000), TermChoice::Nth(5)),
+    ),
+    (
+        &["eval", "--nodes=7", "--dot=1"],
+        [1_000_000, 16_777_216, 65_536, 262_144],
+        [false, false, false, false, false, false, false],
+        (None, None, Some(7), TermChoice::Nth(1)),
     ),
 ];
 
@@ -80,12 +111,16 @@ fn reaches_its_field<H: Abort + Files>(rt: &H, alloc: Global, row: &Row) {
         return rt.abort();
     };
     let EvalOptions {
+        terms,
         steps,
         cells,
         memo,
         reclaim,
         count,
         bytes,
+        to_table,
+        sizes,
+        graph,
         limit_annotations,
         depth,
         stuck,
@@ -93,9 +128,17 @@ fn reaches_its_field<H: Abort + Files>(rt: &H, alloc: Global, row: &Row) {
         progress,
     } = options;
     let found = [steps, u64::from(cells), u64::from(memo), u64::from(reclaim)];
-    let said = [count, limit_annotations, stuck, profile, progress];
+    let said = [
+        count,
+        limit_annotations,
+        stuck,
+        profile,
+        progress,
+        to_table,
+        sizes,
+    ];
     assert!(rt;
-        found == numbers && said == flags && (depth, bytes) == bounds,
+        found == numbers && said == flags && (depth, bytes, graph, terms) == bounds,
         "{words:?}"
     );
 }

@@ -49,10 +49,12 @@ Arguments:
   [FILE]  ATerm file, or - [default: standard input]
 
 Options:
-      --explain    Explain errors, also if not on a terminal
-      --dot        Print a graph of its cells for Graphviz instead
-      --nodes <N>  Most nodes in the graph, 1 to 2^30 [default: 2000]
-  -h, --help       Print help
+      --explain     Explain errors, also if not on a terminal
+      --dot         Print a graph of its cells for Graphviz instead
+      --nodes <N>   Most nodes in the graph, 1 to 2^30 [default: 2000]
+      --from-table  Read a table, and use its term
+      --to-table    Print the table of each term
+  -h, --help        Print help
 
 Example: echo 'f(a,a)' | recw share
 ";
@@ -67,7 +69,9 @@ Arguments:
   [TERMS]  File with an ATerm list of input terms, or -
 
 Options:
-  -e, --term <TERM>        Input term instead of TERMS; may be repeated
+  -e, --input <TERM>       Input term instead of TERMS; may be repeated
+      --only-terms         Evaluate input terms only, not the EVAL terms
+      --term <N>           Evaluate only the N-th term, 1 to 10^18
       --join <FILE>        Specification to join before SPEC; may be repeated
       --steps <N>          Step limit per term, up to 10^18 [default: 1000000]
       --cells <C>          Cells in the store, 1 to 2^30 [default: 16777216]
@@ -75,7 +79,11 @@ Options:
       --reclaim <K>        Most new cells between collections [default: 262144]
       --depth <D>          Call-depth limit, up to 2^32 - 1 [default: no limit]
       --bytes <B>          Bytes per result, up to 10^18 [default: no limit]
+      --to-table           Print tables, with each shared part once
       --count              Print the step count after each result
+      --sizes              Print the number of cells after each result
+      --dot <N>            Print a graph of the N-th result for Graphviz instead
+      --nodes <N>          Most nodes in the graph, 1 to 2^30 [default: 1000]
       --limit-annotations  Print an input term's annotations after its limit
       --limit-status       Exit with status 5 if there is a limit line
       --stuck              Report stuck calls in results; status 5 if any
@@ -110,6 +118,7 @@ Options:
       --reclaim <K>  Most new cells between collections [default: 262144]
       --depth <D>    Call-depth limit, up to 2^32 - 1 [default: 1000000]
       --bytes <B>    Bytes per result, up to 10^18 [default: 16777216]
+      --to-table     Print tables, with each shared part once
       --count        Print the step count after each result
       --explain      Explain errors, also if not on a terminal
   -h, --help         Print help
@@ -130,6 +139,8 @@ Arguments:
   [TERMS]  File with an ATerm list of input terms, or -
 
 Options:
+  -e, --input <TERM>     Input term instead of TERMS; may be repeated
+      --term <N>         Evaluate only the N-th term, 1 to 10^18
       --steps <N>        Step limit per term, up to 10^18 [default: 1000000]
       --cells <C>        Cells in the store, 1 to 2^30 [default: 16777216]
       --count            Print the steps so far after each line
@@ -139,6 +150,7 @@ Options:
       --last <N>         Print only the last N rewrites, up to 2^30
       --rule <LINE:COL>  Print only rewrites by the rule at this location
       --symbol <NAME>    Print only rewrites of calls of this symbol
+      --rules            Print the text of each rule in these lines
       --explain          Explain errors, also if not on a terminal
   -h, --help             Print help
 
@@ -158,7 +170,13 @@ Arguments:
 Options:
       --explain     Explain errors, also if not on a terminal
       --indent <N>  Print over several lines, N spaces per level, 0 to 64
+      --width <W>   Break only terms that do not fit on a line of W bytes
+      --from-table  Read a table, and use its term
+      --to-table    Print the table of each term
+      --bytes <B>   Bytes of the term, up to 10^18; 16777216 with --from-table
   -h, --help        Print help
+
+A term of more than B bytes prints '!bytes B'.
 
 Example: echo 'f ( a , [ 1 , -007 ] )' | recw aterm
 ";
@@ -321,7 +339,7 @@ fn shows_its_version<H: Abort + Files>(rt: &H, alloc: Global) {
 fn shows_the_refusals<H: Abort + Files>(rt: &H, alloc: Global) {
     let ran = run(rt, alloc, &["help", "refusals"], "");
     let line = "\nS11 variable in an EVAL term\n";
-    let is_shown = ran.out().lines().count() == 24 && ran.out().contains(line);
+    let is_shown = ran.out().lines().count() == 26 && ran.out().contains(line);
     assert!(rt; ran.status == 0 && is_shown && ran.err().is_empty());
 }
 

@@ -6,7 +6,7 @@ use std::process::Abort;
 use std::rt::Files;
 
 /// Arguments that are usage errors.
-const WRONG_WORDS: [&[&str]; 72] = [
+const WRONG_WORDS: [&[&str]; 116] = [
     &["eval", "--cells", "0"],
     &["eval", "--cells", "1073741825"],
     &["eval", "--reclaim", "0"],
@@ -56,7 +56,54 @@ const WRONG_WORDS: [&[&str]; 72] = [
     &["trace"],
     &["trace", "-", "-"],
     &["trace", "a", "b", "c"],
-    &["trace", "-", "-e", "z"],
+    &["trace", "-", "a", "-e", "z"],
+    &["trace", "-", "-e", "z", "--term", "0"],
+    &["trace", "-", "--term", "x"],
+    &["trace", "-", "--only-terms"],
+    &["trace", "-", "--rules", "--rules"],
+    &["eval", "--term", "0"],
+    &["eval", "--term", "1000000000000000001"],
+    &["eval", "--term", "1", "--term", "2"],
+    &["eval", "--only-terms"],
+    &["eval", "--only-terms", "--term", "1", "-e", "z"],
+    &["eval", "--only-terms", "--only-terms", "-e", "z"],
+    &["eval", "--input", "z", "a", "b"],
+    &["serve", "a", "--term", "1"],
+    &["serve", "a", "--only-terms"],
+    &["eval", "--to-table", "--bytes", "9"],
+    &["eval", "--to-table", "--to-table"],
+    &["serve", "a", "--to-table", "--bytes", "9"],
+    &["trace", "-", "--to-table"],
+    &["trace", "-", "--sizes"],
+    &["serve", "a", "--sizes"],
+    &["serve", "a", "--dot", "1"],
+    &["eval", "--dot"],
+    &["eval", "--dot", "0"],
+    &["eval", "--dot", "x"],
+    &["eval", "--dot", "1", "--term", "1"],
+    &["eval", "--dot", "1", "--only-terms", "-e", "z"],
+    &["eval", "--dot", "1", "--bytes", "9"],
+    &["eval", "--dot", "1", "--to-table"],
+    &["eval", "--dot", "1", "--count"],
+    &["eval", "--dot", "1", "--sizes"],
+    &["eval", "--dot", "1", "--stuck"],
+    &["eval", "--dot", "1", "--profile"],
+    &["eval", "--dot", "1", "--nodes", "0"],
+    &["eval", "--nodes", "3"],
+    &["aterm", "--width", "8"],
+    &["aterm", "--indent", "2", "--width", "0"],
+    &["aterm", "--indent", "2", "--width", "1073741825"],
+    &["aterm", "--bytes", "1000000000000000001"],
+    &["aterm", "--bytes", "3", "--to-table"],
+    &["aterm", "--indent", "2", "--to-table"],
+    &["aterm", "--indent", "2", "--from-table"],
+    &["aterm", "--indent", "2", "--width", "8", "--from-table"],
+    &["aterm", "--width", "8", "--to-table"],
+    &["share", "--from-table"],
+    &["share", "--nodes", "5", "--to-table"],
+    &["share", "--dot", "--to-table"],
+    &["share", "--from-table", "--dot", "--to-table"],
+    &["match", "--from-table", "a"],
     &["trace", "-", "--memo", "0"],
     &["trace", "-", "--width", "2"],
     &["trace", "-", "--width", "x"],
@@ -74,9 +121,6 @@ const WRONG_WORDS: [&[&str]; 72] = [
     &["check", "--format", "-"],
     &["check", "--format", "xml", "-"],
     &["check", "--format", "json", "--format", "json", "-"],
-    &["check", "--join", "a", "--format", "json", "b"],
-    &["check", "--format", "gnu", "--join", "a", "b"],
-    &["check", "--explain", "--join", "a", "b"],
     &["uses", "--format", "json"],
     &["help", "S12"],
 ];
@@ -86,6 +130,54 @@ fn refuses<H: Abort + Files>(rt: &H, alloc: Global, words: &[&str]) {
     let ran = run(rt, alloc, words, ADDITION);
     let is_refused = ran.status == 2 && ran.out().is_empty() && ran.err().starts_with("error: ");
     assert!(rt; is_refused, "{words:?}: {}", ran.err());
+}
+
+/// Selections that name nothing in the addition, and their usage errors.
+const UNNAMED: [(&[&str], &str); 7] = [
+    (
+        &["trace", "-", "--rule", "1:100"],
+        "error: invalid value '1:100' for '--rule <LINE:COL>': no rule begins there; \
+         the nearest one begins at 1:103\n\nFor more information, try '--help'.\n",
+    ),
+    (
+        &["trace", "-", "--rule", "1:117"],
+        "error: invalid value '1:117' for '--rule <LINE:COL>': no rule begins there; \
+         the nearest one begins at 1:103\n\nFor more information, try '--help'.\n",
+    ),
+    (
+        &["trace", "-", "--rule", "7:3", "--symbol", "pluss"],
+        "error: invalid value '7:3' for '--rule <LINE:COL>': no rule begins there; \
+         the nearest one begins at 1:118\n\nFor more information, try '--help'.\n",
+    ),
+    (
+        &["trace", "-", "--symbol", "pluss"],
+        "error: invalid value 'pluss' for '--symbol <NAME>': not a symbol; \
+         did you mean `plus`?\n\nFor more information, try '--help'.\n",
+    ),
+    (
+        &["trace", "-", "--symbol", "X", "--rules"],
+        "error: invalid value 'X' for '--symbol <NAME>': not a symbol; \
+         the only operator is plus\n\nFor more information, try '--help'.\n",
+    ),
+    (
+        &["trace", "-", "--symbol", "", "--rule", "1:103"],
+        "error: invalid value '' for '--symbol <NAME>': not a symbol; \
+         the only operator is plus\n\nFor more information, try '--help'.\n",
+    ),
+    (
+        &["trace", "-", "--symbol", "Nat", "--explain"],
+        "error: invalid value 'Nat' for '--symbol <NAME>': not a symbol; \
+         the only operator is plus\n\nFor more information, try '--help'.\n",
+    ),
+];
+
+#[test]
+fn refuses_what_is_not_there(rt: HostRuntime) {
+    for (words, wanted) in &UNNAMED {
+        let ran = run(&rt, rt.alloc(), *words, ADDITION);
+        let is_refused = ran.status == 2 && ran.out().is_empty() && ran.err() == *wanted;
+        assert!(&rt; is_refused, "{words:?}: {}", ran.err());
+    }
 }
 
 #[test]

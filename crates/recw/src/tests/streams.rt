@@ -31,6 +31,27 @@ pub(crate) const NAMED: &[Row] = &[
     (&["eval", "spec"], "", 0, "s(s(s(z)))\n", ""),
     (&["eval", "spec", "terms"], "", 0, "s(s(s(z)))\ns(z)\n", ""),
     (
+        &["eval", "spec", "terms", "--only-terms"],
+        "",
+        0,
+        "s(z)\n",
+        "",
+    ),
+    (
+        &["eval", "spec", "--term", "2", "terms"],
+        "",
+        0,
+        "s(z)\n",
+        "",
+    ),
+    (
+        &["eval", "spec", "--term", "3", "terms"],
+        "",
+        2,
+        "",
+        "error: there is no term 3; this run has 2\n\nFor more information, try '--help'.\n",
+    ),
+    (
         &["eval", "terms", "spec"],
         "",
         1,
@@ -82,6 +103,23 @@ pub(crate) const NAMED: &[Row] = &[
         "",
         1,
         "terms:1:1: error: syntax error in the specification [G]\n",
+        "",
+    ),
+    (
+        &["check", "--join", "spec", "--explain", "terms"],
+        "",
+        1,
+        "terms:1:1: error: syntax error in the specification [G]\n    \
+         [plus(z,s(z))]\n    ^\n    expected `REC-SPEC`\n",
+        "",
+    ),
+    (
+        &["check", "--format", "json", "--join", "terms", "spec"],
+        "",
+        1,
+        "{\"file\":\"terms\",\"line\":1,\"column\":1,\"end_line\":1,\"end_column\":2,\
+         \"severity\":\"error\",\"code\":\"G\",\"message\":\"syntax error in the specification\",\
+         \"expected\":[\"`REC-SPEC`\"],\"suggestion\":null}\n",
         "",
     ),
     (

@@ -1,12 +1,14 @@
 //! Tests of progress lines and profiles.
 
+use crate::numbered::TermNumber;
 use crate::profile::Profile;
-use crate::progress::Progress;
+use crate::progress::{Display, Progress};
 use crate::tests::outcome::STUCK;
 use crate::tests::{ADDITION, Row, run};
 use rec_run::{Profiler, RuleCount, Tally};
 use rec_sorts::{Checked, check};
 use rec_syntax::read_spec;
+use recw_cli::TermChoice;
 use std::alloc::Global;
 use std::cell::Cell;
 use std::io;
@@ -65,13 +67,23 @@ const LINE: &[u8] = b"\rrecw: term 1: 12,345,678 of 1,000,000,000 steps, 262,144
 
 const WIPED: &[u8] = b"\r\x1b[K";
 
+/// Returns what is shown of a run in which all terms are evaluated.
+fn display_of(is_asked: bool, steps: u64, width: usize) -> Display {
+    Display {
+        is_asked,
+        steps,
+        width,
+        first: TermNumber::first(TermChoice::All),
+    }
+}
+
 /// Checks that the line is shown this number of times and then cleared; not at all if progress is
 /// not requested.
 fn shows(rt: &impl Abort, alloc: Global, step: u64, told: u32, shown: usize) -> io::Result<()> {
     let clock = clock_of(step);
     let mut err = Vec::new(alloc);
-    let mut progress = Progress::new(alloc, &clock, true, 1_000_000_000, 80);
-    let mut silent = Progress::new(alloc, &clock, false, 1_000_000_000, 80);
+    let mut progress = Progress::new(alloc, &clock, display_of(true, 1_000_000_000, 80));
+    let mut silent = Progress::new(alloc, &clock, display_of(false, 1_000_000_000, 80));
     for _ in 0..told {
         progress.show(987_654_322, 262_144, &mut err);
         silent.show(987_654_322, 262_144, &mut err);
@@ -106,7 +118,7 @@ const SECOND: &[u8] = b"\rrecw: term 2: 0 of 1,000 steps, 999 cells\x1b[K\r\x1b[
 fn shows_which_term_it_is(rt: HostRuntime) {
     let clock = clock_of(2000);
     let mut err = Vec::new(rt.alloc());
-    let mut progress = Progress::new(rt.alloc(), &clock, true, 1000, 80);
+    let mut progress = Progress::new(rt.alloc(), &clock, display_of(true, 1000, 80));
     progress.show(999, 1, &mut err);
     progress.end_term(&mut err);
     progress.show(1000, 999, &mut err);
@@ -114,6 +126,23 @@ fn shows_which_term_it_is(rt: HostRuntime) {
     progress.show(0, 1_073_741_824, &mut err);
     progress.end_term(&mut err);
     assert!(&rt; err.as_slice() == SECOND);
+}
+
+/// Which terms are evaluated, and the name of the second of them.
+const CHOICES: [(TermChoice, &str); 3] = [
+    (TermChoice::All, "term 2"),
+    (TermChoice::Input, "input term 2"),
+    (TermChoice::Nth(7), "term 8"),
+];
+
+#[test]
+fn counts_the_terms_that_are_evaluated(rt: HostRuntime) -> io::Result<()> {
+    for (terms, name) in &CHOICES {
+        let second = TermNumber::first(*terms).after(1);
+        let said = format!(in rt.alloc(); "{second}")?;
+        assert!(&rt; said.as_str() == *name, "{said}");
+    }
+    Ok(())
 }
 
 /// The columns of a terminal, and the line of a term of a step on it, with the bytes that clear it.
@@ -135,7 +164,7 @@ fn cuts_lines_to_the_terminal(rt: HostRuntime) {
     let clock = clock_of(2000);
     for (width, line) in &WIDTHS {
         let mut err = Vec::new(rt.alloc());
-        let mut progress = Progress::new(rt.alloc(), &clock, true, 1000, *width);
+        let mut progress = Progress::new(rt.alloc(), &clock, display_of(true, 1000, *width));
         progress.show(999, 1, &mut err);
         progress.show(999, 999, &mut err);
         progress.end_term(&mut err);
@@ -167,11 +196,30 @@ const TALLY: Tally = Tally {
     reclaims: 5,
 };
 
-/// The profile of both.
-const PROFILE: &str = "profile: 1:103: 1 matched, 1 applied, 0 failed\n\
-     profile: 1:118: 20 matched, 4 applied, 15 failed\n\
-     profile: steps: 28 spent, 21 matched, 7 saved by 2 memo hits\n\
-     profile: cells: 40 made, 9 in use at most\nprofile: garbage collections: 5\n";
+/// The profile of both, and the same on a terminal.
+const PROFILES: [(Option<usize>, &str); 3] = [
+    (
+        None,
+        "profile: 1:118: 20 matched, 4 applied, 15 failed\tplus(s(X),Y) -> s(plus(X,Y))\n\
+         profile: 1:103: 1 matched, 1 applied, 0 failed\tplus(z,Y) -> Y\n\
+         profile: steps: 28 spent, 21 matched, 7 saved by 2 memo hits\n\
+         profile: cells: 40 made, 9 in use at most\nprofile: garbage collections: 5\n",
+    ),
+    (
+        Some(80),
+        "profile: 1:118: 20 matched, 4 applied, 15 failed  plus(s(X),Y) -> s(plus(X,Y))\n\
+         profile: 1:103:  1 matched, 1 applied,  0 failed  plus(z,Y) -> Y\n\
+         profile: steps: 28 spent, 21 matched, 7 saved by 2 memo hits\n\
+         profile: cells: 40 made, 9 in use at most\nprofile: garbage collections: 5\n",
+    ),
+    (
+        Some(75),
+        "profile: 1:118: 20 matched, 4 applied, 15 failed  plus(s(X),Y) -> s(plu...\n\
+         profile: 1:103:  1 matched, 1 applied,  0 failed  plus(z,Y) -> Y\n\
+         profile: steps: 28 spent, 21 matched, 7 saved by 2 memo hits\n\
+         profile: cells: 40 made, 9 in use at most\nprofile: garbage collections: 5\n",
+    ),
+];
 
 /// Returns the specification of the addition.
 fn addition(rt: &impl Abort, alloc: Global) -> Checked {
@@ -184,21 +232,29 @@ fn addition(rt: &impl Abort, alloc: Global) -> Checked {
     }
 }
 
-/// Compares the profile of these counts.
-fn profiles(rt: &impl Abort, alloc: Global, counts: &[RuleCount], wanted: &str) {
+/// Compares the profile of these counts, on a terminal with this number of columns if there is one.
+fn profiles(
+    rt: &impl Abort,
+    alloc: Global,
+    counts: &[RuleCount],
+    columns: Option<usize>,
+    wanted: &str,
+) {
     let checked = addition(rt, alloc);
     let mut told = Vec::new(alloc);
-    let mut silent = Profile::new(alloc, false, &mut told);
+    let mut silent = Profile::new(alloc, false, columns, &mut told);
     silent.conclude(&checked, counts, TALLY);
-    let mut profile = Profile::new(alloc, true, &mut told);
+    let mut profile = Profile::new(alloc, true, columns, &mut told);
     profile.conclude(&checked, counts, TALLY);
     assert!(rt; told.as_slice() == wanted.as_bytes(), "{wanted}");
 }
 
 #[test]
 fn tells_what_a_run_took(rt: HostRuntime) {
-    profiles(&rt, rt.alloc(), COUNTS, PROFILE);
-    profiles(&rt, rt.alloc(), &[], "profile: out of memory\n");
+    for (columns, wanted) in &PROFILES {
+        profiles(&rt, rt.alloc(), COUNTS, *columns, *wanted);
+    }
+    profiles(&rt, rt.alloc(), &[], None, "profile: out of memory\n");
 }
 
 /// Runs with messages, of which the beginning and the end of standard error are known.
@@ -209,8 +265,8 @@ const RUNS: [(Row, &str); 6] = [
             ADDITION,
             0,
             "s(s(s(z)))\n",
-            "profile: 1:103: 1 matched, 1 applied, 0 failed\n\
-             profile: 1:118: 2 matched, 2 applied, 0 failed\n\
+            "profile: 1:118: 2 matched, 2 applied, 0 failed\tplus(s(X),Y) -> s(plus(X,Y))\n\
+             profile: 1:103: 1 matched, 1 applied, 0 failed\tplus(z,Y) -> Y\n\
              profile: steps: 3 spent, 3 matched, 0 saved by 0 memo hits\nprofile: cells: ",
         ),
         "\nprofile: garbage collections: 0\n",
@@ -221,8 +277,8 @@ const RUNS: [(Row, &str); 6] = [
             ADDITION,
             0,
             "!limit 2\n",
-            "profile: 1:103: 0 matched, 0 applied, 0 failed\n\
-             profile: 1:118: 2 matched, 2 applied, 0 failed\n\
+            "profile: 1:118: 2 matched, 2 applied, 0 failed\tplus(s(X),Y) -> s(plus(X,Y))\n\
+             profile: 1:103: 0 matched, 0 applied, 0 failed\tplus(z,Y) -> Y\n\
              profile: steps: 2 spent, 2 matched, 0 saved by 0 memo hits\nprofile: cells: ",
         ),
         "\nprofile: garbage collections: 0\n",
@@ -233,8 +289,8 @@ const RUNS: [(Row, &str); 6] = [
             ADDITION,
             3,
             "",
-            "profile: 1:103: 0 matched, 0 applied, 0 failed\n\
-             profile: 1:118: 0 matched, 0 applied, 0 failed\n\
+            "profile: 1:103: 0 matched, 0 applied, 0 failed\tplus(z,Y) -> Y\n\
+             profile: 1:118: 0 matched, 0 applied, 0 failed\tplus(s(X),Y) -> s(plus(X,Y))\n\
              profile: steps: 0 spent, 0 matched, 0 saved by 0 memo hits\nprofile: cells: ",
         ),
         "\nrecw: out of cells\n",
@@ -264,11 +320,11 @@ const RUNS: [(Row, &str); 6] = [
             STUCK,
             5,
             "f(z)\nf(s(z))\n",
-            "profile: 1:91: 1 matched, 0 applied, 1 failed\n\
+            "profile: 1:91: 1 matched, 0 applied, 1 failed\tf(s(X)) -> X if X -><- s(z)\n\
              profile: steps: 1 spent, 1 matched, 0 saved by 0 memo hits\nprofile: cells: ",
         ),
-        "\nprofile: garbage collections: 0\nstuck: f(z): no rule matches\n\
-         stuck: f(s(z)): the conditions of 1:91 fail\n",
+        "\nprofile: garbage collections: 0\nstuck: term 1: f(z): no rule matches\n\
+         stuck: term 2: f(s(z)): the conditions of 1:91 fail\n",
     ),
     (
         (
@@ -276,7 +332,7 @@ const RUNS: [(Row, &str); 6] = [
             STUCK,
             3,
             "",
-            "profile: 1:91: 0 matched, 0 applied, 0 failed\n\
+            "profile: 1:91: 0 matched, 0 applied, 0 failed\tf(s(X)) -> X if X -><- s(z)\n\
              profile: steps: 0 spent, 0 matched, 0 saved by 0 memo hits\nprofile: cells: ",
         ),
         "\nrecw: out of cells\n",

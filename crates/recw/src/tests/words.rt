@@ -46,6 +46,50 @@ pub(crate) const STATUSES: &[Row] = &[
     ),
     (&["eval", "--steps", "2"], ADDITION, 0, "!limit 2\n", ""),
     (
+        &["eval", "--to-table", "--count", "--sizes"],
+        ADDITION,
+        0,
+        "[s(s(s(z)))]\t3\t8\n",
+        "",
+    ),
+    (
+        &["eval", "--bytes", "9", "--sizes", "-e", "s(z){a}"],
+        ADDITION,
+        0,
+        "!bytes 9\ns(z){a}\t6\n",
+        "",
+    ),
+    (
+        &["eval", "--dot", "2", "-e", "plus(z,z)"],
+        ADDITION,
+        0,
+        "digraph term {\n  node [shape=box, fontname=\"monospace\"];\n  n0 [label=\"z\"];\n  \
+         n0 -> n1 [label=\"args\"];\n  n1 [label=\"[]\"];\n}\n",
+        "",
+    ),
+    (
+        &["eval", "--dot", "1", "--nodes", "1"],
+        ADDITION,
+        0,
+        "digraph term {\n  node [shape=box, fontname=\"monospace\"];\n  n0 [label=\"s\"];\n  \
+         rest [label=\"7 more\", style=dashed];\n}\n",
+        "",
+    ),
+    (
+        &["eval", "--dot", "3", "-e", "z"],
+        ADDITION,
+        2,
+        "",
+        "error: there is no term 3; this run has 2\n\nFor more information, try '--help'.\n",
+    ),
+    (
+        &["eval", "--dot", "1"],
+        "REC-SPEC E SORTS : END-SPEC",
+        1,
+        "!spec G\n",
+        "recw: spec G at byte 17\n",
+    ),
+    (
         &["eval", "--steps=1000000000000000000", "--count"],
         ADDITION,
         0,
@@ -131,6 +175,58 @@ pub(crate) const TRACES: &[Row] = &[
         "0:0: plus(...\n1:118: s(plu...\n... 1 more\n1:103: s(s(s...\ns(s(s(z)))\n",
         "",
     ),
+    // Terms with 3, 0, 1 and 2 rewrites.
+    (
+        &[
+            "trace",
+            "-",
+            "--first",
+            "1",
+            "--last",
+            "1",
+            "-e",
+            "z",
+            "-e",
+            "plus(z,z)",
+            "-e",
+            "plus(s(z),z)",
+        ],
+        ADDITION,
+        0,
+        "1:118: plus(s(s(z)),s(z)) -> s(plus(s(z),s(z)))\n... 1 more\n\
+         1:103: plus(z,s(z)) -> s(z)\ns(s(s(z)))\nz\n1:103: plus(z,z) -> z\nz\n\
+         1:118: plus(s(z),z) -> s(plus(z,z))\n1:103: plus(z,z) -> z\ns(z)\n",
+        "",
+    ),
+    (
+        &["trace", "-", "--last", "5"],
+        ADDITION,
+        0,
+        "1:118: plus(s(s(z)),s(z)) -> s(plus(s(z),s(z)))\n\
+         1:118: plus(s(z),s(z)) -> s(plus(z,s(z)))\n1:103: plus(z,s(z)) -> s(z)\ns(s(s(z)))\n",
+        "",
+    ),
+    (
+        &["trace", "-", "--last", "0"],
+        ADDITION,
+        0,
+        "... 3 more\ns(s(s(z)))\n",
+        "",
+    ),
+    (
+        &["trace", "-", "--rule", "1:118", "--last", "1"],
+        ADDITION,
+        0,
+        "... 1 more\n1:118: plus(s(z),s(z)) -> s(plus(z,s(z)))\ns(s(s(z)))\n",
+        "",
+    ),
+    (
+        &["trace", "-", "--steps", "2", "--last", "1"],
+        ADDITION,
+        0,
+        "... 1 more\n1:118: plus(s(z),s(z)) -> s(plus(z,s(z)))\n!limit 2\n",
+        "",
+    ),
     (
         &["trace", "-", "--rule", "1:103", "--symbol", "plus"],
         ADDITION,
@@ -150,7 +246,7 @@ pub(crate) const TRACES: &[Row] = &[
         ADDITION,
         3,
         "",
-        "recw: out of cells\nthe store limit is 3 cells; raise it with --cells\n",
+        "recw: out of cells\nterm 1: the store limit is 3 cells; raise it with --cells\n",
     ),
     (
         &["trace", "/dev/null", "-"],
@@ -160,6 +256,52 @@ pub(crate) const TRACES: &[Row] = &[
         "recw: spec G at byte 0\n",
     ),
     (&["trace", "no such file"], "", 4, "", "recw: read failed\n"),
+    // A rejected specification has its own error first, whatever is selected.
+    (
+        &["trace", "-", "--rule", "7:3", "--symbol", "none"],
+        "REC-SPEC E SORTS : END-SPEC",
+        1,
+        "!spec G\n",
+        "recw: spec G at byte 17\n",
+    ),
+    (
+        &["trace", "-", "--symbol", "none", "--rules"],
+        "REC-SPEC E SORTS A A END-SPEC",
+        1,
+        "!spec S1\n",
+        "recw: spec S1 at byte 19\n",
+    ),
+    (
+        &["trace", "-", "--rules"],
+        ADDITION,
+        0,
+        "1:118: plus(s(s(z)),s(z)) -> s(plus(s(z),s(z)))\n\
+         1:118: plus(s(z),s(z)) -> s(plus(z,s(z)))\n1:103: plus(z,s(z)) -> s(z)\ns(s(s(z)))\n",
+        "rule: 1:103: plus(z,Y) -> Y\nrule: 1:118: plus(s(X),Y) -> s(plus(X,Y))\n",
+    ),
+    (
+        &["trace", "-", "--rules", "--whole", "--last", "1", "--count"],
+        ADDITION,
+        0,
+        "0:0: plus(s(s(z)),s(z))\n... 2 more\n1:103: s(s(s(z)))\t3\ns(s(s(z)))\t3\n",
+        "rule: 1:103: plus(z,Y) -> Y\n",
+    ),
+    (
+        &["trace", "-", "--rules", "--symbol", "s"],
+        ADDITION,
+        0,
+        "s(s(s(z)))\n",
+        "",
+    ),
+    // The text of a rule has no comments, and ends before the next rule.
+    (
+        &["trace", "-", "--rules"],
+        "REC-SPEC L SORTS N CONS z : -> N OPNS f : N -> N g : -> N VARS X : N RULES\n\
+         f( % a call\n\tX )   ->\r\n X if X -><- g\n% none\n( ) g( ) -> z EVAL f(z) END-SPEC",
+        0,
+        "2:1: f(z) -> z\nz\n",
+        "rule: 2:1: f( X ) -> X if X -><- g ( )\n",
+    ),
 ];
 
 /// Terms that are printed.
@@ -191,6 +333,20 @@ pub(crate) const TERMS: &[Row] = &[
         "[[],<int>]",
         0,
         "[\n[],\n<\nint\n>\n]\n",
+        "",
+    ),
+    (
+        &["aterm", "--indent", "2", "--width", "8"],
+        "f ( a , [ 1 , 2 ] )",
+        0,
+        "f(\n  a,\n  [1,2]\n)\n",
+        "",
+    ),
+    (
+        &["aterm", "--width=10", "--indent=2"],
+        "f ( a , [ 1 , 2 ] )",
+        0,
+        "f(a,[1,2])\n",
         "",
     ),
     (
@@ -237,6 +393,96 @@ pub(crate) const TERMS: &[Row] = &[
         4,
         "",
         "recw: read failed\n",
+    ),
+    (
+        &["aterm", "--to-table"],
+        "f(pair(a,b),pair(a,b),<7>)",
+        0,
+        "[pair(a,b),f(<0>,<0>,<[7]>)]\n",
+        "",
+    ),
+    (
+        &["aterm", "--from-table"],
+        "[f(x),g(<0>,<0>)]",
+        0,
+        "g(f(x),f(x))\n",
+        "",
+    ),
+    (
+        &["aterm", "--from-table", "--to-table"],
+        "[a,pair(<0>,b),f(<1>,pair(a,b))]",
+        0,
+        "[pair(a,b),f(<0>,<0>)]\n",
+        "",
+    ),
+    // without the option, a table is a term
+    (
+        &["aterm"],
+        "[f(x),g(<0>,<0>)]",
+        0,
+        "[f(x),g(<0>,<0>)]\n",
+        "",
+    ),
+    (&["aterm", "--bytes", "6"], "f(a, a)", 0, "f(a,a)\n", ""),
+    (&["aterm", "--bytes", "5"], "f(a, a)", 0, "!bytes 5\n", ""),
+    (
+        &["aterm", "--from-table", "--bytes", "0"],
+        "[a]",
+        0,
+        "!bytes 0\n",
+        "",
+    ),
+    (&["aterm", "--from-table"], "a", 1, "!term R1\n", ""),
+    (
+        &["aterm", "--from-table", "--explain"],
+        "a",
+        1,
+        "!term R1\n",
+        "<stdin>: R1: table that is not a list without annotations, or has no element\n",
+    ),
+    (
+        &["share", "--from-table", "--to-table", "--explain"],
+        "[a,b,<2>]",
+        1,
+        "!term R2\n",
+        "<stdin>: R2: placeholder of a table that is not <N>, N being an earlier element, \
+         nor <[TERM]>; element 3 of the list\n",
+    ),
+    (
+        &["aterm", "--from-table"],
+        "[a",
+        1,
+        "!term A\n",
+        "recw: term A at byte 2\n",
+    ),
+    (
+        &["share", "--from-table", "--to-table"],
+        "[pair(a,b),f(<0>,<0>)]",
+        0,
+        "[pair(a,b),f(<0>,<0>)]\ncells 9\n",
+        "",
+    ),
+    (
+        &["share", "--to-table"],
+        "f(a,a)",
+        0,
+        "[f(a,a)]\ncells 5\n",
+        "",
+    ),
+    (
+        &["share", "--from-table", "--dot"],
+        "[c,a]",
+        0,
+        "digraph term {\n  node [shape=box, fontname=\"monospace\"];\n  n0 [label=\"a\"];\n  \
+         n0 -> n1 [label=\"args\"];\n  n1 [label=\"[]\"];\n}\n",
+        "",
+    ),
+    (
+        &["share", "--from-table", "--dot"],
+        "[<0>]",
+        1,
+        "!term R2\n",
+        "",
     ),
 ];
 

@@ -28,7 +28,7 @@ ghost use Rattle.rx_run.specs.Inner.PatternAnswers.{IsAnswerHeld, IsPatternRead,
 use crate::ending::{RunFault, Source};
 use crate::pattern::reading::elements_of;
 use crate::refusal::{Reading, Reason};
-use crate::term::reading::{parse, read_term};
+use crate::term::reading::{InputForm, parse, read_term};
 use rx_pattern::{MakeFault, Pattern, PatternFault};
 use rx_term::{Term, TermBank};
 use rx_text::Input;
@@ -98,7 +98,7 @@ fn match_input<B: TermBank, R: Read>(
     ensures cap { (B.store bank.new).cap ≡ (B.store bank.old).cap }
     ensures reports { ReportsRead input.old input.new result }
 {
-    match read_term(alloc, input, bank)? {
+    match read_term(alloc, InputForm::Term, input, bank)? {
         Reading::Refused(refusal) => Ok(Reading::Refused(refusal)),
         Reading::Good(t) => match_term(alloc, pattern, t, bank),
     }

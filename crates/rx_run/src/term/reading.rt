@@ -1,18 +1,23 @@
 //! Reads the text of one term.
 
-ghost use Rattle.std.specs.Prelude.{◌≡◌, ◌<◌, ◌≤◌, IfOk, IfErr, OnOk};
+ghost use Rattle.std.specs.Prelude.{◌≡◌, ◌<◌, ◌≤◌, IfOk, IfErr, IsSome, OnOk};
 ghost use Rattle.rx_term.specs.Steps.{Grows};
-ghost use Rattle.rx_text.specs.Verdict.{Verdict, IsVerdict};
+ghost use Rattle.rx_term.specs.Store.{tree_at};
+ghost use Rattle.rx_term.specs.Walks.{held_tree};
+ghost use Rattle.rx_text.specs.Verdict.{Verdict, Spelt, IsVerdict};
 ghost use Rattle.rx_text.specs.Input.{remaining_in};
 ghost use Rattle.rx_shared.specs.State.{IsEmptyStore, store_of};
 ghost use Rattle.rx_run.specs.Run.{IsReadOut, RanOut, StopsUnwritten};
 ghost use Rattle.rx_run.specs.Streams.{ReportsRead};
-ghost use Rattle.rx_run.specs.TermRuns.{IsGiven, IsReadingOf};
+ghost use Rattle.rx_run.specs.TermRuns.{IsReadingOf};
+ghost use Rattle.rx_run.specs.Inner.TermReadings.{IsGivenIn, IsReadingOfTable, Parses};
+ghost use Rattle.rx_run.specs.declared.term.reading.InputForm.TheVariants.{Table};
 
 use crate::ending::{RunFault, Source};
 use crate::refusal::{Reading, Reason};
 use crate::streams::read_all_from;
 use rx_shared::SharedBank;
+use rx_table::{TableFault, open_table};
 use rx_term::{Term, TermBank};
 use rx_text::{Input, TextFault};
 use std::alloc::Global;
@@ -21,14 +26,26 @@ use std::io::Read;
 /// The greatest capacity of a term store, in cells.
 pub const MOST_CELLS: u32 = 1_073_741_824;
 
-/// Reads the text of a term into a store.
+/// The form in which the input of a run is read.
+#[derive(Clone, Copy, Debug, Drop, PartialEq, Eq)]
+pub enum InputForm {
+    /// The text of a term.
+    Term,
+    /// The text of a table, whose term is taken. A text that is not a table is rejected with `R1` or
+    /// `R2`. It is read into a store of its own with up to 2^30 cells; if that is full, which takes
+    /// more than a text of [`LIMIT`](crate::LIMIT) bytes, the run fails with `Memory`.
+    Table,
+}
+
+/// Reads an input in this form into a store.
 pub(crate) fn read_term<B: TermBank, R: Read>(
     alloc: Global,
+    form: InputForm,
     input: &mut Input<'_, R>,
     bank: &mut B,
 ) -> Result<Reading<Term>, RunFault>
-    ensures read { IfOk result
-        (λ reading. IsGiven (remaining_in R.remaining input.old) (B.store bank.new) reading) }
+    ensures read { IfOk result (λ reading.
+        IsGivenIn form (remaining_in R.remaining input.old) (B.store bank.new) reading) }
     ensures grows { Grows (B.store bank.old) (B.store bank.new) }
     ensures out { OnOk result
         (IsReadOut (remaining_in R.remaining input.old) (remaining_in R.remaining input.new)) }
@@ -36,7 +53,7 @@ pub(crate) fn read_term<B: TermBank, R: Read>(
     ensures reports { ReportsRead input.old input.new result }
 {
     let text = read_all_from(alloc, input)?;
-    parse(alloc, Source::Term, &text, bank)
+    parse_in(alloc, form, &text, bank)
 }
 
 /// Creates an empty store with this capacity. The only error is `Memory`.
@@ -69,5 +86,78 @@ pub fn parse<B: TermBank>(
         Err(TextFault::Grammar { at }) => Ok(Reading::refused(source, Reason::Outside { at })),
         Err(TextFault::Memory) => Err(RunFault::Memory { lines: 0 }),
         Err(TextFault::Full) => Err(RunFault::Room { lines: 0 }),
+    }
+}
+
+/// Reads a text in this form into a store.
+fn parse_in<B: TermBank>(
+    alloc: Global,
+    form: InputForm,
+    text: &[u8],
+    bank: &mut B,
+) -> Result<Reading<Term>, RunFault>
+    ensures { Parses form text.now (B.store bank.old) (B.store bank.new) result }
+{
+    match form {
+        InputForm::Term => parse(alloc, Source::Term, text, bank),
+        InputForm::Table => match empty_bank(alloc, MOST_CELLS) {
+            Ok(tables) => parse_table(alloc, text, tables, bank),
+            Err(fault) => Err(fault),
+        },
+    }
+}
+
+/// Reads the text of a table into the empty store `tables`, which it drops, and its term into the
+/// store `bank`.
+fn parse_table<B: TermBank + Drop, C: TermBank>(
+    alloc: Global,
+    text: &[u8],
+    mut tables: B,
+    bank: &mut C,
+) -> Result<Reading<Term>, RunFault>
+    requires limit { (B.store tables).cap ≡ 1073741824 }
+    ensures { Parses Table text.now (C.store bank.old) (C.store bank.new) result }
+{
+    open_text(alloc, text, &mut tables, bank)
+}
+
+/// Reads the text of a table into the store `tables`, and its term into the store `bank`.
+fn open_text<B: TermBank, C: TermBank>(
+    alloc: Global,
+    text: &[u8],
+    tables: &mut B,
+    bank: &mut C,
+) -> Result<Reading<Term>, RunFault>
+    ensures { Parses Table text.now (C.store bank.old) (C.store bank.new) result }
+{
+    match parse(alloc, Source::Term, text, tables) {
+        Ok(Reading::Good(t)) => open_term(alloc, tables, t, bank),
+        Ok(Reading::Refused(refusal)) => Ok(Reading::Refused(refusal)),
+        Err(_) => Err(RunFault::Memory { lines: 0 }),
+    }
+}
+
+/// Makes, in the store `bank`, the term of a table of the store `tables`, or rejects what is not a
+/// table.
+fn open_term<B: TermBank, C: TermBank>(
+    alloc: Global,
+    tables: &B,
+    t: Term,
+    bank: &mut C,
+) -> Result<Reading<Term>, RunFault>
+    requires { IsSome (tree_at (B.store tables.now) t) }
+    ensures read { IfOk result (λ reading. IsReadingOfTable (C.store bank.new) reading
+        (Spelt (held_tree (B.store tables.now) t))) }
+    ensures grows { Grows (C.store bank.old) (C.store bank.new) }
+    ensures fault { IfErr result (RanOut (C.store bank.old) (C.store bank.new)) }
+{
+    match open_table(alloc, tables, t, bank) {
+        Ok(term) => Ok(Reading::Good(term)),
+        Err(TableFault::NotTable) => Ok(Reading::refused(Source::Term, Reason::NotTable)),
+        Err(TableFault::Element { number }) => {
+            Ok(Reading::refused(Source::Term, Reason::Element { number }))
+        }
+        Err(TableFault::Full) => Err(RunFault::Room { lines: 0 }),
+        Err(TableFault::Memory | TableFault::Long) => Err(RunFault::Memory { lines: 0 }),
     }
 }

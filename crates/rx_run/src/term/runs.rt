@@ -1,30 +1,38 @@
 //! Runs on the text of one term.
 
 ghost use Rattle.std.specs.Prelude.{◌≡◌, ℕ, IfErr, IfOk, OnOk};
-ghost use Rattle.rx_text.specs.Input.{remaining_in};
 ghost use Rattle.rx_text.specs.Output.{Writes, contents_of};
 ghost use Rattle.rx_run.specs.Refusals.{ending_of};
-ghost use Rattle.rx_run.specs.Run.{BreaksFor, BreaksForBy, ConcludesFor, IsNotDeep, IsReadOut};
+ghost use Rattle.rx_run.specs.Run.{BreaksFor, ConcludesFor, IsNotDeep, IsReadOut};
 ghost use Rattle.rx_run.specs.Run.{RoomFills, StopsBy, StopsWriting};
-ghost use Rattle.rx_run.specs.Streams.{ReportsBoth, ReportsWrite};
+ghost use Rattle.rx_run.specs.Streams.{ReportsWrite};
 ghost use Rattle.rx_run.specs.TermRuns.{
-  IsDueOf,
   IsShareDue,
   IsTermDue,
   IsTermHeld,
   IsUnrooted,
+  RunsOnTerm,
   due_at,
 };
 
 use crate::ending::RunFault;
 use crate::refusal::{Ending, Reading};
 use crate::term::output::{TermLines, TermOutput};
-use crate::term::reading::{MOST_CELLS, empty_bank, read_term};
+use crate::term::reading::{InputForm, MOST_CELLS, empty_bank, read_term};
 use crate::writing::write_refusal_to;
 use rx_term::{Term, TermBank};
 use rx_text::{Input, Output};
 use std::alloc::Global;
 use std::io::{Read, Write};
+
+/// What a run reads and writes.
+#[derive(Clone, Copy)]
+pub struct TermRun<L> {
+    /// The form in which the input is read.
+    pub form: InputForm,
+    /// The lines for its term.
+    pub lines: L,
+}
 
 /// Reads the text of a term and writes its printed form and a line end, or its error line. Flushes
 /// at the end. After an error the position of the reader is unspecified.
@@ -42,7 +50,11 @@ pub fn print_term<R: Read, W: Write>(
 {
     let mut input = Input::new(input);
     let mut output = Output::new(out);
-    run_on_term(alloc, &mut input, &mut output, &TermLines::Text)
+    let run = TermRun {
+        form: InputForm::Term,
+        lines: TermLines::Text,
+    };
+    run_on_term(alloc, &mut input, &mut output, &run)
 }
 
 /// Reads the text of a term and writes a line with its printed form and a line with the number of
@@ -62,30 +74,27 @@ pub fn share_term<R: Read, W: Write>(
 {
     let mut input = Input::new(input);
     let mut output = Output::new(out);
-    run_on_term(alloc, &mut input, &mut output, &TermLines::TextAndCells)
+    let run = TermRun {
+        form: InputForm::Term,
+        lines: TermLines::TextAndCells,
+    };
+    run_on_term(alloc, &mut input, &mut output, &run)
 }
 
-/// Reads the text of a term and writes the lines that `lines` selects, or its error line. Flushes
-/// at the end. The term store has at most 2^30 cells. A stream that has failed is not used again.
+/// Reads an input in the form of `run` and writes the lines of `run` for its term, or its error line.
+/// Flushes at the end. The term store has at most 2^30 cells. A stream that has failed is not used
+/// again.
 pub fn run_on_term<R: Read, W: Write, L: TermOutput>(
     alloc: Global,
     input: &mut Input<'_, R>,
     out: &mut Output<'_, W>,
-    lines: &L,
+    run: &TermRun<L>,
 ) -> Result<Ending, RunFault>
-    ensures ends { IfOk result (λ ending. ConcludesFor (IsDueOf (L.lines lines.now))
-        (remaining_in R.remaining input.old) ending (contents_of W.contents out.old)
-        (contents_of W.contents out.new)) }
-    ensures fault { IfErr result (λ fault. BreaksForBy (L.counts_lines lines.now)
-        (IsDueOf (L.lines lines.now)) (remaining_in R.remaining input.old) fault
-        (contents_of W.contents out.old) (contents_of W.contents out.new)) }
-    ensures no_depth { IfErr result IsNotDeep }
-    ensures input_read { OnOk result (IsReadOut (remaining_in R.remaining input.old)
-        (remaining_in R.remaining input.new)) }
-    ensures reports { ReportsBoth input.old input.new out.old out.new result }
+    ensures { RunsOnTerm run.now.form (L.lines run.now.lines) (L.counts_lines run.now.lines)
+        R.remaining W.contents input.old input.new out.old out.new result }
 {
     match empty_bank(alloc, MOST_CELLS) {
-        Ok(bank) => run_owned(alloc, bank, input, out, lines),
+        Ok(bank) => run_owned(alloc, bank, input, out, run),
         Err(fault) => Err(fault),
     }
 }
@@ -96,51 +105,35 @@ fn run_owned<B: TermBank + Drop, R: Read, W: Write, L: TermOutput>(
     mut bank: B,
     input: &mut Input<'_, R>,
     out: &mut Output<'_, W>,
-    lines: &L,
+    run: &TermRun<L>,
 ) -> Result<Ending, RunFault>
     requires unrooted { (t : ℕ) → (B.store bank).roots t ≡ 0 }
     requires limit { (B.store bank).cap ≡ 1073741824 }
-    ensures ends { IfOk result (λ ending. ConcludesFor (IsDueOf (L.lines lines.now))
-        (remaining_in R.remaining input.old) ending (contents_of W.contents out.old)
-        (contents_of W.contents out.new)) }
-    ensures fault { IfErr result (λ fault. BreaksForBy (L.counts_lines lines.now)
-        (IsDueOf (L.lines lines.now)) (remaining_in R.remaining input.old) fault
-        (contents_of W.contents out.old) (contents_of W.contents out.new)) }
-    ensures no_depth { IfErr result IsNotDeep }
-    ensures input_read { OnOk result (IsReadOut (remaining_in R.remaining input.old)
-        (remaining_in R.remaining input.new)) }
-    ensures reports { ReportsBoth input.old input.new out.old out.new result }
+    ensures { RunsOnTerm run.now.form (L.lines run.now.lines) (L.counts_lines run.now.lines)
+        R.remaining W.contents input.old input.new out.old out.new result }
 {
-    run_on_term_over(alloc, &mut bank, input, out, lines)
+    run_on_term_over(alloc, &mut bank, input, out, run)
 }
 
-/// Reads the text of a term into a store of the caller, and writes the lines that `lines` selects,
-/// or its error line. Flushes at the end. Returns `Room` only if the store is full. If `lines`
-/// frees everything except the term, no term of the store may be protected. A stream that has
+/// Reads an input in the form of `run` into a store of the caller, and writes the lines of `run` for
+/// its term, or its error line. Flushes at the end. Returns `Room` only if the store is full. If the
+/// lines free everything except the term, no term of the store may be protected. A stream that has
 /// failed is not used again.
 pub fn run_on_term_over<B: TermBank, R: Read, W: Write, L: TermOutput>(
     alloc: Global,
     bank: &mut B,
     input: &mut Input<'_, R>,
     out: &mut Output<'_, W>,
-    lines: &L,
+    run: &TermRun<L>,
 ) -> Result<Ending, RunFault>
-    requires unrooted { IsUnrooted (L.reclaims lines.now) (B.store bank.old) }
-    ensures ends { IfOk result (λ ending. ConcludesFor (IsDueOf (L.lines lines.now))
-        (remaining_in R.remaining input.old) ending (contents_of W.contents out.old)
-        (contents_of W.contents out.new)) }
-    ensures fault { IfErr result (λ fault. BreaksForBy (L.counts_lines lines.now)
-        (IsDueOf (L.lines lines.now)) (remaining_in R.remaining input.old) fault
-        (contents_of W.contents out.old) (contents_of W.contents out.new)) }
-    ensures no_depth { IfErr result IsNotDeep }
+    requires unrooted { IsUnrooted (L.reclaims run.now.lines) (B.store bank.old) }
+    ensures runs { RunsOnTerm run.now.form (L.lines run.now.lines) (L.counts_lines run.now.lines)
+        R.remaining W.contents input.old input.new out.old out.new result }
     ensures room { IfErr result (RoomFills (B.store bank.old) (B.store bank.new)) }
     ensures cap { (B.store bank.new).cap ≡ (B.store bank.old).cap }
-    ensures input_read { OnOk result (IsReadOut (remaining_in R.remaining input.old)
-        (remaining_in R.remaining input.new)) }
-    ensures reports { ReportsBoth input.old input.new out.old out.new result }
 {
-    let reading = read_term(alloc, input, bank)?;
-    end_term(alloc, bank, &reading, out, lines)
+    let reading = read_term(alloc, run.form, input, bank)?;
+    end_term(alloc, bank, &reading, out, &run.lines)
 }
 
 /// Writes the specified output for what was read, flushes, and returns the end of the run.

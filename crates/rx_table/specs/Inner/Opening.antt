@@ -1,5 +1,6 @@
 -- Reading a table, in progress.
-use Rattle.std.specs.Prelude.{ℕ, ◌≡◌, List, [], ◌∷◌, ◌++◌, Option, Some, None, IsSome, flat_map}
+use Rattle.std.specs.Prelude.{◌≡◌, List, [], ◌∷◌, ◌++◌, Option, Some, None, IsSome, flat_map}
+use Rattle.std.specs.Prelude.{ℕ}
 use Rattle.std.specs.List.{AllByRecursion}
 use Rattle.std.specs.Option.{option_and_then}
 use Rattle.indexmap.specs.IndexMap.{IndexMap}
@@ -13,6 +14,7 @@ use Rattle.rx_table.specs.Inner.Walk.{AreThere, Begun, IsAmong, trees_of}
 use Rattle.rx_table.specs.Inner.Made.{HasAll, Made}
 use Rattle.rx_table.specs.declared.opening.Inside.{Inside}
 use Rattle.rx_table.specs.declared.opening.Inside.TheVariants.{Number, Item, Neither}
+use Rattle.rx_table.specs.declared.opening.Opening.{Opening}
 
 -- AreHeld w rs: the store has these references
 abbrev pub AreHeld : Store → List Term → Type 0
@@ -32,13 +34,18 @@ all_opened es (t ∷ ts) = option_and_then (λ u. all_opened (es ++ u ∷ []) ts
 abbrev pub inside_of : Tree → List Tree
 inside_of t = flat_map subterms (direct t)
 
--- HasInside w t inside: the tree is a placeholder of a number, without annotations; or a
+-- IsHole t: the tree is a placeholder
+abbrev pub IsHole : Tree → Type 0
+IsHole (Hole inner anns) = Unit {0}
+IsHole t = ⊥
+
+-- HasInside v t inside: the tree is a placeholder of a number, without annotations; or a
 -- placeholder of a list of one item; or a placeholder that does not open
 abbrev pub HasInside : Store → Tree → Inside → Type 0
-HasInside w t (Number z) = t ≡ Hole (Int z none) none
-HasInside w t (Item r) =
-    (u : Tree) × ((anns : Trees) × (tree_at w r ≡ Some u) × (t ≡ Hole (list_of (more u none)) anns))
-HasInside w t Neither = (es : List Tree) → opened es t ≡ None
+HasInside v t (Number z) = t ≡ Hole (Int z none) none
+HasInside v t (Item r) =
+    (u : Tree) × ((anns : Trees) × (tree_at v r ≡ Some u) × (t ≡ Hole (list_of (more u none)) anns))
+HasInside v t Neither = (es : List Tree) → opened es t ≡ None
 
 -- IsOpened es t w o: the term has the tree that `t` opens to; there is none if it does not open
 abbrev pub IsOpened : List Tree → Tree → Store → Option Term → Type 0
@@ -54,22 +61,21 @@ abbrev pub OpensOne : List Tree → Tree → List Tree → Type 0
 OpensOne es t es' = (u : Tree) × (opened es t ≡ Some u) × (es' ≡ es ++ u ∷ [])
 
 module _ {S : Type 0} where
-  -- Opens w elements made: each term in the map is a part opened with these elements
-  abbrev pub Opens : Store → List Term → IndexMap ℕ Term S → Type 0
-  Opens w elements made = Made w (opened (held_trees w elements)) made
+  -- Opens v w elements made: each term in the map is a part opened with these elements
+  abbrev pub Opens : Store → Store → List Term → IndexMap ℕ Term S → Type 0
+  Opens v w elements made = Made v w (opened (held_trees w elements)) made
 
-  -- IsNext w made ts: all trees inside of the trees `ts` come before them, or terms were made of
+  -- IsNext v made ts: all trees inside of the trees `ts` come before them, or terms were made of
   -- them
   abbrev pub IsNext : Store → IndexMap ℕ Term S → List Tree → Type 0
-  IsNext w made ts = (before : List Tree) × Begun (before ++ ts) × HasAll w made before
+  IsNext v made ts = (before : List Tree) × Begun (before ++ ts) × HasAll v made before
 
-  -- IsOpening w parts made elements: these elements were opened, and `made` has each of their parts
-  -- opened
-  pub record IsOpening (w : Store) (parts : List ℕ) (made : IndexMap ℕ Term S) (elements : List Term) : Type 0 where
-    pub before : List Tree
-    pub begun : Begun before
-    pub trees : trees_of w parts ≡ different before
-    pub there : AreThere w parts
-    pub held : AreHeld w elements
-    pub opens : Opens w elements made
-    pub has : HasAll w made (trees_of w parts)
+-- IsOpening v w opening: elements of the store `v` were opened in the store `w`
+pub record IsOpening (v w : Store) (opening : Opening) : Type 0 where
+  pub before : List Tree
+  pub begun : Begun before
+  pub trees : trees_of v opening.parts.keys ≡ different before
+  pub there : AreThere v opening.parts.keys
+  pub held : AreHeld w opening.elements.items
+  pub opens : Opens v w opening.elements.items opening.made
+  pub has : HasAll v opening.made (trees_of v opening.parts.keys)

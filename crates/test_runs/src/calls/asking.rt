@@ -35,7 +35,9 @@ pub(crate) enum Call {
     Unprotect,
     Reclaim,
     Read(&'static [u8]),
+    ReadTable(&'static [u8]),
     Print,
+    PrintTable,
     Name,
     Place,
     Rule,
@@ -52,6 +54,8 @@ pub(crate) enum Call {
     Make,
     Symbol(&'static [u8], bool, u32),
     Apply,
+    /// The call of a symbol, with its step limit.
+    CallOn(u64),
     /// The number itself.
     Number(u32),
     /// The successor of another number.
@@ -202,6 +206,7 @@ fn take_apart(alloc: Global, work: &mut Work, t: Term, given: &[u32], call: &Cal
         Call::Arity => of_count(work.arity(t)),
         Call::Quoted => of_flag(work.is_quoted(t)),
         Call::Print => of_number(work.print(alloc, t)),
+        Call::PrintTable => of_number(work.print_table(alloc, t)),
         Call::Name => of_number(work.name(alloc, t)),
         _ => take_part(alloc, work, t, given, call),
     }
@@ -238,6 +243,7 @@ fn keep(alloc: Global, work: &mut Work, t: Term, given: &[u32], call: &Call) -> 
 fn evaluate(alloc: Global, work: &mut Work, t: Term, given: &[u32], call: &Call) -> Came {
     match call {
         Call::Read(text) => of_term(work.read(alloc, text)),
+        Call::ReadTable(text) => of_term(work.read_table(alloc, text)),
         Call::Place => of_count(Ok(work.place)),
         Call::Rule => of_count(Ok(work.rule)),
         Call::Specify(text, memo, reclaim) => of_done(work.specify(alloc, text, *memo, *reclaim)),
@@ -259,6 +265,7 @@ fn match_terms(alloc: Global, work: &mut Work, n: usize, terms: &[u32], call: &C
         Call::Make => of_term(work.make(alloc, n, terms)),
         Call::Symbol(name, quoted, arity) => of_number(work.symbol(name, *quoted, *arity)),
         Call::Apply => of_term(work.apply(n, terms)),
+        Call::CallOn(steps) => of_value(work.call(alloc, n, terms, *steps)),
         _ => count(n, terms, call),
     }
 }

@@ -12,6 +12,12 @@ const ADD: &[u8] = b"REC-SPEC Add SORTS Nat \
 /// A specification with a duplicate sort.
 const TWICE: &[u8] = b"REC-SPEC A SORTS B B CONS OPNS VARS RULES EVAL END-SPEC";
 
+/// Pairs of numbers, and a constructor of another sort.
+const PAIRS: &[u8] = b"REC-SPEC Pairs SORTS Nat Pair \
+    CONS z : -> Nat s : Nat -> Nat p : Nat Nat -> Pair \
+    OPNS dup : Nat -> Pair plus : Nat Nat -> Nat VARS X Y : Nat \
+    RULES dup(X) -> p(X,X) plus(z,Y) -> Y plus(s(X),Y) -> s(plus(X,Y)) EVAL END-SPEC";
+
 /// The first calls of a store.
 pub(crate) const MAKES: [Row; 14] = [
     (Call::Int(-7), &[], Due::Kept("seven")),
@@ -255,4 +261,103 @@ pub(crate) const APPLIES: [Row; 19] = [
     (Call::Read(b"b"), &[], Due::Kept("b")),
     (Call::Apply, &["f", "b", "b"], Due::Kept("both")),
     (Call::Print, &["both"], Due::Text(b"f(b,b)")),
+];
+
+/// Symbols are called on values, which are not evaluated again.
+pub(crate) const CALLS: [Row; 40] = [
+    (Call::Number(0), &[], Due::Kept("unknown")),
+    (Call::CallOn(9), &["unknown"], Due::Not(Fault::Unspecified)),
+    (Call::Specify(PAIRS, 0, 1), &[], Due::Done),
+    (Call::CallOn(9), &["unknown"], Due::Not(Fault::Unknown)),
+    (Call::Symbol(b"plus", false, 2), &[], Due::Kept("plus")),
+    (Call::Symbol(b"dup", false, 1), &[], Due::Kept("dup")),
+    (Call::Symbol(b"s", false, 1), &[], Due::Kept("s")),
+    (Call::Number(99), &[], Due::Kept("stale")),
+    (Call::CallOn(9), &["plus", "stale"], Due::Not(Fault::Range)),
+    (Call::CallOn(9), &["dup", "stale"], Due::Not(Fault::Stale)),
+    (Call::Read(b"s(z)"), &[], Due::Kept("one")),
+    (Call::Protect, &["one"], Due::Done),
+    (Call::Read(b"s(s(z))"), &[], Due::Kept("two")),
+    (Call::Protect, &["two"], Due::Done),
+    (
+        Call::CallOn(9),
+        &["plus", "one", "one"],
+        Due::KnownAfter("two", 2),
+    ),
+    (
+        Call::CallOn(1),
+        &["plus", "one", "one"],
+        Due::Not(Fault::Limit),
+    ),
+    (Call::CallOn(0), &["s", "one"], Due::KnownAfter("two", 0)),
+    (Call::Read(b"plus(z,z)"), &[], Due::Kept("call")),
+    (Call::CallOn(1), &["dup", "call"], Due::KeptAfter("pair", 1)),
+    (Call::Print, &["pair"], Due::Text(b"p(plus(z,z),plus(z,z))")),
+    // The argument is kept; the value before it is not.
+    (Call::Print, &["call"], Due::Text(b"plus(z,z)")),
+    (Call::CallOn(0), &["s", "one"], Due::KnownAfter("two", 0)),
+    (Call::Holds, &["pair"], Due::Not(Fault::Stale)),
+    (Call::Read(b"s(f(1){a}){b}"), &[], Due::Kept("noted")),
+    (
+        Call::CallOn(9),
+        &["plus", "one", "noted"],
+        Due::KeptAfter("sum", 2),
+    ),
+    (Call::Print, &["sum"], Due::Text(b"s(s(f(1){a}){b})")),
+    // The rules of the call itself.
+    (Call::Symbol(b"minus", false, 1), &[], Due::Kept("minus")),
+    (Call::CallOn(9), &["minus", "one"], Due::Not(Fault::Rule)),
+    (Call::Rule, &[], Due::Number(4)),
+    (Call::Symbol(b"plus", false, 1), &[], Due::Kept("short")),
+    (Call::CallOn(9), &["short", "one"], Due::Not(Fault::Rule)),
+    (Call::Rule, &[], Due::Number(5)),
+    (Call::Symbol(b"dup", true, 1), &[], Due::Kept("quoted")),
+    (Call::CallOn(9), &["quoted", "one"], Due::Not(Fault::Rule)),
+    (Call::Rule, &[], Due::Number(4)),
+    (Call::Read(b"p(z,z)"), &[], Due::Kept("pair")),
+    (
+        Call::CallOn(9),
+        &["plus", "one", "pair"],
+        Due::Not(Fault::Rule),
+    ),
+    (Call::Rule, &[], Due::Number(6)),
+    (Call::Int(7), &[], Due::Kept("seven")),
+    (Call::CallOn(9), &["dup", "seven"], Due::Not(Fault::Rule)),
+];
+
+/// Tables of terms, and texts that spell none.
+pub(crate) const TABLES: [Row; 17] = [
+    (
+        Call::Read(b"f(pair(a,b),pair(a,b),<7>)"),
+        &[],
+        Due::Kept("t"),
+    ),
+    (
+        Call::PrintTable,
+        &["t"],
+        Due::Text(b"[pair(a,b),f(<0>,<0>,<[7]>)]"),
+    ),
+    (
+        Call::ReadTable(b"[pair(a,b), f(<0>,<0>,<[7]>)]"),
+        &[],
+        Due::Known("t"),
+    ),
+    (
+        Call::ReadTable(b"[c,pair(a,b){c},g(<1>)]"),
+        &[],
+        Due::Kept("g"),
+    ),
+    (Call::Print, &["g"], Due::Text(b"g(pair(a,b){c})")),
+    (Call::PrintTable, &["g"], Due::Text(b"[g(pair(a,b){c})]")),
+    (Call::Number(99), &[], Due::Kept("stale")),
+    (Call::PrintTable, &["stale"], Due::Not(Fault::Stale)),
+    (Call::ReadTable(b"[a,,b]"), &[], Due::Not(Fault::Syntax)),
+    (Call::Rule, &[], Due::Number(0)),
+    (Call::Place, &[], Due::Number(3)),
+    (Call::ReadTable(b"[a]{b}"), &[], Due::Not(Fault::Rule)),
+    (Call::Rule, &[], Due::Number(1)),
+    (Call::ReadTable(b"[a,<1>]"), &[], Due::Not(Fault::Rule)),
+    (Call::Rule, &[], Due::Number(2)),
+    (Call::ReadTable(b"[a,<0>{b}]"), &[], Due::Not(Fault::Rule)),
+    (Call::Place, &[], Due::Number(3)),
 ];

@@ -6,8 +6,8 @@ use crate::rows::counting::{Counting, Counts};
 use crate::rows::given::run_beside;
 use crate::rows::{ADD, Q, expect_ran, push, push_often};
 use rec_run::{
-    EndedWithin, LimitLines, NoTerms, RunOptions, RunReport, RunSettings, ValueForm, run, run_over,
-    unobserved,
+    EndedWithin, LimitLines, NoTerms, RunOptions, RunReport, RunSettings, TermChoice, ValueForm,
+    run, run_over, unobserved,
 };
 use rx_run::{Ending, Finish, RunFault};
 use rx_shared::SharedBank;
@@ -86,7 +86,9 @@ fn settings(options: RunOptions) -> RunSettings
         options,
         limits: LimitLines::Bare,
         form: ValueForm::Plain,
+        sizes: false,
         depth: None,
+        terms: TermChoice::All,
     }
 }
 

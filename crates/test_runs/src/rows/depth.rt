@@ -3,8 +3,10 @@
 
 use crate::rows::streams::{Sink, bytewise, taking};
 use crate::rows::{addition, options};
-use rec_run::{LimitLines, NoTerms, RunOptions, RunSettings, ValueForm, run_given, unobserved};
-use rec_serve::{Deaf, ServeSettings, run_serve};
+use rec_run::{
+    LimitLines, NoTerms, RunOptions, RunSettings, TermChoice, ValueForm, run_given, unobserved,
+};
+use rec_serve::{Deaf, ServeSettings, Session, run_serve};
 use rx_run::{Ending, Finish, RunFault};
 use std::alloc::Global;
 use std::process::Abort;
@@ -13,7 +15,7 @@ use std::process::Abort;
 const SUMS: &str = addition!("plus(z,z) plus(s(s(z)),z)");
 
 /// Returns options without a memo table. A call that is to be memoized has a frame of its own.
-fn forgetful() -> RunOptions {
+pub(crate) fn forgetful() -> RunOptions {
     let RunOptions {
         steps,
         cells,
@@ -47,7 +49,9 @@ fn expect_end(rt: &impl Abort, alloc: Global, out: &mut Sink, row: &Ends) {
         options: forgetful(),
         limits: LimitLines::Bare,
         form: ValueForm::Plain,
+        sizes: false,
         depth,
+        terms: TermChoice::All,
     };
     let mut spec = bytewise(SUMS);
     let mut observer = unobserved();
@@ -88,7 +92,8 @@ fn expect_answers(rt: &impl Abort, alloc: Global, out: &mut Sink, row: &Answers)
     };
     let mut requests = bytewise("plus(s(z),z)\nplus(s(s(z)),z)\nz(\nplus(s(z),z){a}");
     let mut spec = bytewise(SUMS);
-    let end = run_serve(alloc, &mut spec, &mut requests, out, settings, &mut Deaf);
+    let session = Session { alloc, settings };
+    let end = run_serve(session, &mut spec, &mut requests, out, &mut Deaf);
     assert!(rt;
         matches!(end, Ok(Ending::Done)) && out.held.as_slice() == lines.as_bytes(),
         "{lines}"

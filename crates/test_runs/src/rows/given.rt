@@ -3,7 +3,8 @@
 use crate::rows::streams::bytewise;
 use crate::rows::{ADD, Q, Ran, expect_ran, options, run_on};
 use rec_run::{
-    LimitLines, RunOptions, RunReport, RunSettings, ValueForm, refused_term, run_given, unobserved,
+    LimitLines, RunOptions, RunReport, RunSettings, TermChoice, ValueForm, refused_term, run_given,
+    unobserved,
 };
 use rx_run::{Ending, Finish, Named, Place, RunFault, Source};
 use rx_text::Input;
@@ -122,7 +123,7 @@ pub(crate) fn run_beside(
 }
 
 /// Returns the number of limit lines in a text.
-fn limits_in(lines: &str) -> u64 {
+pub(crate) fn limits_in(lines: &str) -> u64 {
     let mut count = 0u64;
     for line in lines.lines() {
         if line.starts_with('!') {
@@ -133,7 +134,7 @@ fn limits_in(lines: &str) -> u64 {
 }
 
 /// Runs a specification with input terms.
-fn run_with_terms<R: Read, T: Read>(
+pub(crate) fn run_with_terms<R: Read, T: Read>(
     alloc: Global,
     spec: &mut R,
     terms: &mut T,
@@ -154,11 +155,13 @@ fn expect_annotated(rt: &impl Abort, alloc: Global, row: &Value, form: ValueForm
         options: options(row.2, row.3),
         limits: LimitLines::Annotated,
         form,
+        sizes: false,
         depth: None,
+        terms: TermChoice::All,
     };
     let end = run_with_terms(alloc, &mut spec, &mut terms, settings, &mut written);
     assert!(rt;
-        matches!(end, Ok(RunReport { ending: Ending::Done, limit_lines })
+        matches!(end, Ok(RunReport { ending: Ending::Done, lines: _, limit_lines })
             if limit_lines == limits_in(row.4))
             && written.as_slice() == row.4.as_bytes(),
         "{}",

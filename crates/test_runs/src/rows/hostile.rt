@@ -119,22 +119,31 @@ static ROWS: [Row; 16] = [
         lines: "!term A\n",
     },
     Row {
-        job: Job::Make(b"f(<int>,<list>)"),
-        first: "[1,[2,3]]",
+        job: Job::Make {
+            pattern: b"f(<int>,<list>)",
+            args: b"[1,[2,3]]",
+        },
+        first: "",
         second: "",
         finish: Finish::Done,
         lines: "f(1,2,3)\n",
     },
     Row {
-        job: Job::Make(b"<int>"),
-        first: "[1]",
+        job: Job::Make {
+            pattern: b"<int>",
+            args: b"[1]",
+        },
+        first: "",
         second: "",
         finish: Finish::Done,
         lines: "1\n",
     },
     Row {
-        job: Job::Make(b"f(<int>)"),
-        first: "[a]",
+        job: Job::Make {
+            pattern: b"f(<int>)",
+            args: b"[a]",
+        },
+        first: "",
         second: "",
         finish: Finish::Refused,
         lines: "!args M2\n",
@@ -145,35 +154,15 @@ static ROWS: [Row; 16] = [
 fn perform_into(alloc: Global, row: &Row, out: &mut Sink) -> Result<Finish, RunFault> {
     let mut first = bytewise(row.first);
     let mut second = bytewise(row.second);
-    let args = row.first.as_bytes();
-    perform(alloc, row.job, &mut first, &mut second, args, out)
-}
-
-/// Aborts the test unless a run into a writer ends as expected, and the writer has these bytes.
-fn expect_into(
-    rt: &impl Abort,
-    alloc: Global,
-    row: &Row,
-    out: &mut Sink,
-    due: Result<Finish, RunFault>,
-    held: &[u8],
-) {
-    let ended = perform_into(alloc, row, out);
-    expect_held(rt, ended, due, out, held);
+    perform(alloc, row.job, &mut first, &mut second, out)
 }
 
 #[test]
 fn one_byte_a_call(rt: HostRuntime) {
     for row in &ROWS {
         let out = &mut taking(rt.alloc());
-        expect_into(
-            &rt,
-            rt.alloc(),
-            row,
-            out,
-            Ok(row.finish),
-            row.lines.as_bytes(),
-        );
+        let ended = perform_into(rt.alloc(), row, out);
+        expect_held(&rt, ended, Ok(row.finish), out, row.lines.as_bytes());
     }
 }
 
@@ -187,7 +176,7 @@ fn expect_unread(
     second: &mut Slow<'_>,
 ) {
     let mut out = taking(alloc);
-    let ended = perform(alloc, row.job, first, second, &[], &mut out);
+    let ended = perform(alloc, row.job, first, second, &mut out);
     expect_held(rt, ended, Err(RunFault::Read), &out, &[]);
 }
 
@@ -205,7 +194,7 @@ fn fail_read(rt: &impl Abort, alloc: Global, row: &Row, (i, k): (usize, usize), 
 
 /// Lets each read of the texts fail in turn. Arguments of `make` are not read.
 fn fail_reads(rt: &impl Abort, alloc: Global, row: &Row, kind: ErrorKind) {
-    if matches!(row.job, Job::Make(_)) {
+    if matches!(row.job, Job::Make { .. }) {
         return;
     }
     for k in 1..=row.first.len().saturating_add(1) {
@@ -231,7 +220,8 @@ fn reads_fail(rt: HostRuntime) {
 fn fail_write(rt: &impl Abort, alloc: Global, row: &Row, held: &[u8], error: Option<ErrorKind>) {
     let k = held.len().wrapping_add(1);
     let mut out = failing_at(alloc, k, error);
-    expect_into(rt, alloc, row, &mut out, Err(RunFault::Write), held);
+    let ended = perform_into(alloc, row, &mut out);
+    expect_held(rt, ended, Err(RunFault::Write), &out, held);
     assert!(rt; out.writes == k, "{k}");
 }
 
@@ -260,7 +250,8 @@ fn flushes_fail(rt: HostRuntime) {
         for kind in &KINDS {
             let out = &mut unflushed(rt.alloc(), *kind);
             let held = row.lines.as_bytes();
-            expect_into(&rt, rt.alloc(), row, out, Err(RunFault::Write), held);
+            let ended = perform_into(rt.alloc(), row, out);
+            expect_held(&rt, ended, Err(RunFault::Write), out, held);
         }
     }
 }

@@ -48,16 +48,9 @@ fn the_longest_terms(rt: HostRuntime) {
 }
 
 /// Aborts the test unless a run is rejected with this line only.
-fn expect_long(
-    rt: &impl Abort,
-    alloc: Global,
-    job: Job<'_>,
-    first: &mut Slow<'_>,
-    args: &[u8],
-    line: &[u8],
-) {
+fn expect_long(rt: &impl Abort, alloc: Global, job: Job<'_>, first: &mut Slow<'_>, line: &[u8]) {
     let mut out = taking(alloc);
-    let ended = perform(alloc, job, first, &mut endless(), args, &mut out);
+    let ended = perform(alloc, job, first, &mut endless(), &mut out);
     expect_held(rt, ended, Ok(Finish::Refused), &out, line);
 }
 
@@ -72,18 +65,26 @@ static ENDLESS: [(Job<'static>, &[u8]); 4] = [
 #[test]
 fn blanks_without_end(rt: HostRuntime) {
     for (job, line) in &ENDLESS {
-        expect_long(&rt, rt.alloc(), *job, &mut endless(), &[], line);
+        expect_long(&rt, rt.alloc(), *job, &mut endless(), line);
     }
     let spec = &mut bytewise(Q);
-    expect_long(&rt, rt.alloc(), Job::Beside(1), spec, &[], b"!terms L1\n");
+    expect_long(&rt, rt.alloc(), Job::Beside(1), spec, b"!terms L1\n");
 }
 
 /// Aborts the test unless a text is rejected as a pattern and as arguments.
 fn expect_long_text(rt: &impl Abort, alloc: Global, long: &[u8], term: &mut Slow<'_>) {
     let line = b"!pattern L1\n";
-    expect_long(rt, alloc, Job::Match(long), term, &[], line);
-    expect_long(rt, alloc, Job::Make(long), term, b"[", line);
-    expect_long(rt, alloc, Job::Make(b"a"), term, long, b"!args L1\n");
+    expect_long(rt, alloc, Job::Match(long), term, line);
+    let making = Job::Make {
+        pattern: long,
+        args: b"[",
+    };
+    expect_long(rt, alloc, making, term, line);
+    let making = Job::Make {
+        pattern: b"a",
+        args: long,
+    };
+    expect_long(rt, alloc, making, term, b"!args L1\n");
 }
 
 #[test]

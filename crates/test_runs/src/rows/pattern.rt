@@ -206,14 +206,7 @@ static READS: [(&str, Finish, usize); 5] = [
 /// Returns the end of a match with a term that is read.
 fn ended(alloc: Global, pattern: &str, input: &mut Slow<'_>) -> Result<Finish, RunFault> {
     let job = Job::Match(pattern.as_bytes());
-    perform(
-        alloc,
-        job,
-        input,
-        &mut bytewise(""),
-        &[],
-        &mut taking(alloc),
-    )
+    perform(alloc, job, input, &mut bytewise(""), &mut taking(alloc))
 }
 
 #[test]

@@ -7,7 +7,7 @@ use rx_run::{Finish, RunFault, run_aterm, run_make, run_match, run_share};
 use std::alloc::Global;
 use std::process::Abort;
 
-/// A kind of run, with its step limit or its pattern.
+/// A kind of run, with its step limit, or its pattern and the text of its arguments.
 #[derive(Clone, Copy)]
 pub(crate) enum Job<'a> {
     Alone(u32),
@@ -15,16 +15,15 @@ pub(crate) enum Job<'a> {
     Print,
     Share,
     Match(&'a [u8]),
-    Make(&'a [u8]),
+    Make { pattern: &'a [u8], args: &'a [u8] },
 }
 
-/// Runs on two texts, of which it may read only one, or on the text of arguments.
+/// Runs on two texts, of which it may read only one, or none.
 pub(crate) fn perform(
     alloc: Global,
     job: Job<'_>,
     first: &mut Slow<'_>,
     second: &mut Slow<'_>,
-    args: &[u8],
     out: &mut Sink,
 ) -> Result<Finish, RunFault> {
     match job {
@@ -36,7 +35,7 @@ pub(crate) fn perform(
         Job::Print => run_aterm(alloc, first, out),
         Job::Share => run_share(alloc, first, out),
         Job::Match(pattern) => run_match(alloc, pattern, first, out),
-        Job::Make(pattern) => run_make(alloc, pattern, args, out),
+        Job::Make { pattern, args } => run_make(alloc, pattern, args, out),
     }
 }
 

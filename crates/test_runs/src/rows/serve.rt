@@ -6,7 +6,7 @@ use crate::rows::streams::{Sink, Slow, bytewise, failing, failing_at, taking, un
 use crate::rows::{Q, options};
 use rec_engine::{Engine, EngineFault};
 use rec_run::{ValueForm, engine_over, read_spec_text};
-use rec_serve::{Deaf, Refusal, ServeFault, ServeSettings, answer, converse, run_serve};
+use rec_serve::{Deaf, Refusal, ServeFault, ServeSettings, Session, answer, converse, run_serve};
 use rec_sorts::Checked;
 use rx_run::{Ending, Named, Place, Reading, Source};
 use rx_shared::SharedBank;
@@ -39,13 +39,14 @@ fn expect_beginning(rt: &impl Abort, out: &Sink) {
     assert!(rt; LINES.as_bytes().starts_with(out.held.as_slice()));
 }
 
-/// Returns settings with one step and without a call-depth limit.
-fn one_step(is_counted: bool) -> ServeSettings {
-    ServeSettings {
+/// Returns a session with one step and without a call-depth limit.
+fn one_step(alloc: Global, is_counted: bool) -> Session {
+    let settings = ServeSettings {
         options: options(1, is_counted),
         form: ValueForm::Plain,
         depth: None,
-    }
+    };
+    Session { alloc, settings }
 }
 
 /// Runs a session with one step for each request, which is printed.
@@ -55,14 +56,8 @@ fn converse_with(
     requests: &mut Slow<'_>,
     out: &mut Sink,
 ) -> Result<Ending, ServeFault> {
-    run_serve(
-        alloc,
-        &mut bytewise(spec),
-        requests,
-        out,
-        one_step(true),
-        &mut Deaf,
-    )
+    let session = one_step(alloc, true);
+    run_serve(session, &mut bytewise(spec), requests, out, &mut Deaf)
 }
 
 /// Returns the number of complete lines of a session, and the error that ended it.
@@ -117,16 +112,10 @@ fn long_values_are_not_written(rt: HostRuntime) {
         form: ValueForm::Within(4),
         depth: None,
     };
+    let session = Session { alloc, settings };
     let mut spec = bytewise(Q);
     let mut requests = bytewise("f(a)\nf(a){b}\nf(a){b,a}\nf(f(a))\nb{long}\nb");
-    let end = run_serve(
-        alloc,
-        &mut spec,
-        &mut requests,
-        &mut out,
-        settings,
-        &mut Deaf,
-    );
+    let end = run_serve(session, &mut spec, &mut requests, &mut out, &mut Deaf);
     let due = b"a\t1\na{b}\t1\n!bytes 4\n!limit 1\n!bytes 4\nb\t0\n";
     assert!(rt; matches!(end, Ok(Ending::Done)) && out.held.as_slice() == due.as_slice());
 }
@@ -212,7 +201,8 @@ fn expect_answer(
     due: Result<&[u8], Refusal>,
 ) {
     let mut own = store_of(rt, alloc, 1000);
-    let answered = answer(alloc, &mut *own, engine, request, one_step(false)).expect(rt, "memory");
+    let session = one_step(alloc, false);
+    let answered = answer(session, &mut *own, engine, request).expect(rt, "memory");
     let is_due = match due {
         Ok(line) => answered.text.as_slice() == line && answered.refusal.is_none(),
         Err(refusal) => answered.refusal == Some(refusal),
@@ -223,15 +213,15 @@ fn expect_answer(
 /// Tests a request that does not fit into a store of three cells.
 fn wants_cells(rt: &impl Abort, alloc: Global, engine: &mut Engine<SharedBank>) {
     let mut own = store_of(rt, alloc, 3);
-    let wanting = answer(alloc, &mut *own, engine, b"f(a)", one_step(false));
+    let wanting = answer(one_step(alloc, false), &mut *own, engine, b"f(a)");
     assert!(rt; matches!(wanting, Err(EngineFault::Room)));
 }
 
 /// Runs a session with the engine.
 fn converses(rt: &impl Abort, alloc: Global, engine: &mut Engine<SharedBank>, out: &mut Sink) {
     let mut requests = bytewise("f(a)\nf(b)\n");
-    let settings = one_step(false);
-    let end = converse(alloc, engine, &mut requests, out, settings, &mut Deaf);
+    let session = one_step(alloc, false);
+    let end = converse(session, engine, &mut requests, out, &mut Deaf);
     assert!(rt; end == Ok(()) && out.held.as_slice() == b"a\n!term T6\n".as_slice());
 }
 

@@ -5,6 +5,7 @@ use Rattle.rx_term.proofs.StoreLemmas.{some-value, Grows-trans, Grows-made}
 use Rattle.psilt_core.specs.Banks.{store_of}
 use Rattle.psilt_core.specs.Answers.{IsApplication}
 use Rattle.psilt_core.proofs.AnswerLemmas.{appl_is, made_for}
+use Rattle.psilt_core.proofs.ArgumentLemmas.{still_rests}
 use Rattle.psilt_core.proofs.making.apply_symbol.Goals as goal
 
 pub appl-requires : goal.appl-requires
@@ -23,3 +24,8 @@ returns-clause-made c =
 
 pub returns-clause-grows : goal.returns-clause-grows
 returns-clause-grows c = Grows-trans c.list.ensures.grows (Grows-made (store_of c.list.new.bank) (store_of c.appl.new.self) _ c.appl.result c.appl.ensures.made)
+
+pub returns-clause-added : goal.returns-clause-added
+returns-clause-added c =
+    still_rests (store_of c.args.bank.now) (store_of c.list.new.bank) (store_of c.appl.new.self) c.args.args.now _ c.appl.result c.list.ensures.added
+    c.appl.ensures.made

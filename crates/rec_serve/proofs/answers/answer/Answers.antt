@@ -7,13 +7,13 @@ use Rattle.rec_serve.proofs.answers.answer.Goals as goal
 
 pub returns-in-Ok-clause-answered : goal.returns-in-Ok-clause-answered
 returns-in-Ok-clause-answered g c =
-    answered_spelt c.args.engine.now.spec c.args.settings.options.count c.args.settings.form c.args.settings.options.steps c.args.request.now _ c.in-Ok.ensures.spelt.0
+    answered_spelt c.args.engine.now.spec c.args.session.settings.options.count c.args.session.settings.form c.args.session.settings.options.steps c.args.request.now _ c.in-Ok.ensures.spelt.0
     c.answer_term.result c.in-Ok.ensures.spelt.1 c.in-Ok.ensures.spelt.2 c.answer_term.ensures.answered
 
 pub returns-in-Err-Grammar-clause-answered : goal.returns-in-Err-Grammar-clause-answered
 returns-in-Err-Grammar-clause-answered g c =
     let at = c.in-Err-Grammar.at in
-    answered_refused c.args.engine.now.spec c.args.settings.options.count c.args.settings.form c.args.settings.options.steps c.args.request.now (Outside at)
+    answered_refused c.args.engine.now.spec c.args.session.settings.options.count c.args.session.settings.form c.args.session.settings.options.steps c.args.request.now (Outside at)
     (refusal.Outside at) c.refuse-in-Err-Grammar.result
     (c.in-Err-Grammar.ensures.outside at (ap Err c.in-Err-Grammar.field-0-is)) refl refl c.refuse-in-Err-Grammar.ensures.text
     (rw c.in-Err-Grammar.field-0-is at c.refuse-in-Err-Grammar.ensures.refusal)

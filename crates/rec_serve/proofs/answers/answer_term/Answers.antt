@@ -15,7 +15,7 @@ answer_checked-requires g c =
 
 pub returns-in-Err-Rule-clause-answered : goal.returns-in-Err-Rule-clause-answered
 returns-in-Err-Rule-clause-answered g c =
-    refused_tree c.args.engine.now.spec c.checked.result.now.spec c.args.settings.options.count c.args.settings.form c.args.settings.options.steps
+    refused_tree c.args.engine.now.spec c.checked.result.now.spec c.args.session.settings.options.count c.args.session.settings.form c.args.session.settings.options.steps
     (g.N.TermBank.store c.args.own.now) (g.N.TermBank.store c.alone.new.bank) c.args.term c.in-Ok.list
     c.in-Err-Rule.field-0 c.in-Err-Rule.number c.refuse.result c.requires c.alone.ensures.grows c.in-Ok.ensures.list c.in-Err-Rule.ensures.broken
     c.in-Err-Rule.field-0-is c.checked.ensures

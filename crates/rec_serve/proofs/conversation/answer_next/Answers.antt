@@ -6,13 +6,13 @@ use Rattle.rec_serve.proofs.conversation.answer_next.Goals as goal
 
 pub returns-in-Ok-clause-step : goal.returns-in-Ok-clause-step
 returns-in-Ok-clause-step g c =
-    replies_one (IsReplyOf g.B.TermBank.store c.args.engine.now.spec c.args.workspace.now.settings c.reply.new.workspace c.reply.new.engine)
+    replies_one (IsReplyOf g.B.TermBank.store c.args.engine.now.spec c.args.progress.now.workspace.session.settings c.reply.new.workspace c.reply.new.engine)
     c.in-Ok-Some.field-0 c.in-Ok-Some.request _ _ _ _ _ c.in-Ok-Some.field-0-is _ c.in-Ok-Some.ensures.request c.next_request.ensures.kept
     (rw c.renew.ensures at c.in-Ok.ensures.ok)
 
 pub returns-in-Ok-Some-clause-fault : goal.returns-in-Ok-Some-clause-fault
 returns-in-Ok-Some-clause-fault g c =
-    inr (replies_front (IsReplyOf g.B.TermBank.store c.args.engine.now.spec c.args.workspace.now.settings c.reply.new.workspace
+    inr (replies_front (IsReplyOf g.B.TermBank.store c.args.engine.now.spec c.args.progress.now.workspace.session.settings c.reply.new.workspace
     c.reply.new.engine) c.in-Ok-Some.field-0 c.in-Ok-Some.request _ _ _ _ _ c.in-Ok-Some.field-0-is _ c.in-Ok-Some.ensures.request
     c.next_request.ensures.kept (rw c.renew.ensures at c.in-Err-reply.ensures.err))
 

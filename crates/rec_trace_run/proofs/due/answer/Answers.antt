@@ -1,8 +1,8 @@
 use Rattle.std.proofs.Common.{IfOk, ◌≡◌, subst}
-use Rattle.rec_run.specs.Reports.{job_limits}
+use Rattle.rec_run.specs.Reports.{job_counts}
 use Rattle.rec_run.specs.Run.{HasRoom}
 use Rattle.rec_run.specs.declared.spec.due.RunReport.{RunReport}
-use Rattle.rec_run.proofs.RunEndLemmas.{ends_behind, err_behind, fault_behind, limits_behind, ok_behind, reported, reports_behind}
+use Rattle.rec_run.proofs.RunEndLemmas.{counts_behind, ends_behind, err_behind, fault_behind, ok_behind, reported, reports_behind}
 use Rattle.rec_run.specs.declared.options.ValueForm.TheVariants.{Plain}
 use Rattle.rec_trace_run.specs.Inner.Due.{trace_due}
 use Rattle.rec_trace_run.specs.Inner.Pages.{FullIfRoom}
@@ -14,10 +14,10 @@ returns-clause-ends g c =
     subst (λ f. IfOk c.end_run.result (λ (x : RunReport). x.ending ≡ f)) c.ending-ending.ensures
     (ends_behind _ _ _ c.write_due-written.result.end c.end_run.result c.end_run.ensures.ends)
 
-pub returns-clause-limits : goal.returns-clause-limits
-returns-clause-limits g c =
-    limits_behind _ _ _ (λ k. k ≡ job_limits (g.B.TermBank.store c.args.bank) Plain c.args.setup.options.run.steps c.args.reading)
-    c.write_due-written.result.end c.end_run.result c.end_run.ensures.ends c.write_due-written.ensures.limits
+pub returns-clause-counts : goal.returns-clause-counts
+returns-clause-counts g c =
+    counts_behind _ _ _ (λ k. k ≡ job_counts (g.B.TermBank.store c.args.bank) c.args.setup.options.terms Plain c.args.setup.options.run.steps c.args.reading)
+    c.write_due-written.result.end c.end_run.result c.end_run.ensures.ends c.write_due-written.ensures.counts
 
 pub returns-clause-ok : goal.returns-clause-ok
 returns-clause-ok g c =

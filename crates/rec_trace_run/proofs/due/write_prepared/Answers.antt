@@ -6,7 +6,7 @@ use Rattle.rx_text.specs.Output.{Writes, contents_of}
 use Rattle.rx_run.specs.Run.{Stops}
 use Rattle.rx_run.proofs.ErrorLemmas.{on_ok_of}
 use Rattle.rec_syntax.specs.Syntax.{Spec}
-use Rattle.rec_run.specs.Output.{limit_lines}
+use Rattle.rec_run.specs.Output.{counts_of}
 use Rattle.rec_run.specs.declared.options.ValueForm.TheVariants.{Plain}
 use Rattle.rec_trace_run.specs.Inner.Telling.{AreGivenTerms, IsTelling}
 use Rattle.rec_trace_run.specs.Traces.{shown_by, traces}
@@ -34,9 +34,9 @@ returns-in-Ok-clause-err g c =
     (contents_of g.W.Write.contents c.args.out.now) (contents_of g.W.Write.contents c.write_over.new.out))) c.in-Ok.ensures.spec c.write_over.ensures.err in
     IfErr-weaker c.write_over.result.end _ _ (λ fault h us given. h c.args.checked.source us c.requires.telling given) k
 
-pub returns-in-Ok-clause-limits : goal.returns-in-Ok-clause-limits
-returns-in-Ok-clause-limits g c =
+pub returns-in-Ok-clause-counts : goal.returns-in-Ok-clause-counts
+returns-in-Ok-clause-counts g c =
     let terms = c.args.prepared.now.terms in
-    let n = c.args.prepared.now.telling.options.run.steps in
-    subst (λ (z : Spec). IfOk c.write_over.result.end (λ limits. (us : List Tree) → AreGivenTerms z us terms → limits ≡ limit_lines z us Plain n))
-    c.in-Ok.ensures.spec c.write_over.ensures.limits
+    let asked = c.args.prepared.now.telling.options in
+    subst (λ (z : Spec). IfOk c.write_over.result.end (λ counts. (us : List Tree) → AreGivenTerms z us terms
+    → counts ≡ counts_of asked.terms z us Plain asked.run.steps)) c.in-Ok.ensures.spec c.write_over.ensures.counts

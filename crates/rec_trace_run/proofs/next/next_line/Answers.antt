@@ -1,20 +1,15 @@
-use Rattle.std.proofs.Common.{ap, sym, ◌∙◌}
-use Rattle.std.proofs.lemmas.Result.{IfOk-weaker}
+use Rattle.std.proofs.Common.{Some, [], ap, subst, sym, true, ◌∙◌, ◌∷◌}
 use Rattle.rx_term.specs.Store.{tree_at}
-use Rattle.rec_trace_run.proofs.NextLemmas.{one-picked, takes-none}
+use Rattle.rec_trace_run.specs.Inner.Telling.{AddsIf}
+use Rattle.rec_trace_run.proofs.NextLemmas.{one-picked, takes-line}
 use Rattle.rec_trace_run.proofs.next.next_line.Goals as goal
 
-pub returns-then-is_picked-clause-line : goal.returns-then-is_picked-clause-line
-returns-then-is_picked-clause-line g c =
-    IfOk-weaker c.picked_line.result _ _
-    (λ line h source w t before is kept f.
+pub returns-clause-line : goal.returns-clause-line
+returns-clause-line g c = λ source w t before is seen f.
+    let options = c.args.telling.now.options in
+    let section = c.args.section.now in
     let redex = ap (λ b. tree_at (g.B.TermBank.store b) c.args.fired.redex) c.bank.ensures ∙ f.redex_is in
-    let picked = sym (c.is_picked.ensures source c.args.engine.now.spec f.firing is f.rule_is redex) ∙ c.if-is_picked.true in
-    h source w t before is kept f (one-picked source c.args.telling.now.options before f.firing picked))
-    c.picked_line.ensures.line
-
-pub returns-else-is_picked-clause-line : goal.returns-else-is_picked-clause-line
-returns-else-is_picked-clause-line g c = λ source w t before is kept f.
-    let redex = ap (λ b. tree_at (g.B.TermBank.store b) c.args.fired.redex) c.bank.ensures ∙ f.redex_is in
-    let other = sym (c.is_picked.ensures source c.args.engine.now.spec f.firing is f.rule_is redex) ∙ c.if-is_picked.false in
-    takes-none source c.args.telling.now.options before f.firing c.args.kept.now other kept
+    let picked = sym (c.is_picked.ensures source c.args.engine.now.spec f.firing is f.rule_is redex) ∙ c.if-not-is_picked.false in
+    takes-line source options before f.firing section c.take.new.self true (Some c.in_ok-line.line) (one-picked source options before f.firing picked)
+    (subst (AddsIf section) c.if-not-here.false c.in_ok-here.ensures.line) c.in_ok-here.ensures.counted
+    (ap (λ l. l ∷ []) (c.in_ok-line.ensures.text source w t is f)) seen

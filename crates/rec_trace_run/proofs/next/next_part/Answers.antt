@@ -60,7 +60,7 @@ returns-in_ok-line-in-Fired-clause-part g c =
     let f = subst (λ (z : Spec). HasFiredAt z w w' old new c.in-Fired.rule c.in-Fired.redex) (sym same)
     (event-fired c.args.engine.now.spec w w' old new c.in_ok-next_event.field-0 c.in-Fired.rule c.in-Fired.redex
     c.in-Fired.is c.in_ok-next_event.ensures.event) in
-    let told = told-part c.next_event.new.engine.spec w w' w2 old new c.next_line.new.tracer telling c.args.kept.now c.next_line.new.kept line
-    c.in-Fired.rule c.in-Fired.redex f c.in_ok-line-in-Fired.ensures.rest c.in_ok-line-in-Fired.ensures.stands
-    (λ source before is kept. c.in_ok-line-in-Fired.ensures.line source w old before is kept f) in
-    subst (λ (z : Spec). HasTold z w w2 old c.next_line.new.tracer telling c.args.kept.now c.next_line.new.kept line) same told
+    let told = told-part c.next_event.new.engine.spec w w' w2 old new c.next_line.new.tracer telling c.args.section.now c.next_line.new.section line
+    c.in-Fired.rule c.in-Fired.redex f c.in_ok-line-in-Fired.ensures.rest c.in_ok-line-in-Fired.ensures.stands c.next_line.ensures.bounds
+    (λ source before is seen. c.in_ok-line-in-Fired.ensures.line source w old before is seen f) in
+    subst (λ (z : Spec). HasTold z w w2 old c.next_line.new.tracer telling c.args.section.now c.next_line.new.section line) same told

@@ -14,7 +14,7 @@ invariant-turns g l = record {
   stands : Stands l.fn.engine.spec (g.B.TermBank.store l.engine.bank) l.tracer;
   within : IsWithin l.telling.options.run.steps (rest_of l.fn.engine.spec (g.B.TermBank.store l.engine.bank) l.tracer);
   so_far : SoFar g.W.Write.contents l.fn.engine.spec (rest_of l.fn.engine.spec (g.B.TermBank.store l.fn.engine.bank) l.fn.tracer)
-      (rest_of l.fn.engine.spec (g.B.TermBank.store l.engine.bank) l.tracer) l.telling l.kept l.fn.page l.page;
+      (rest_of l.fn.engine.spec (g.B.TermBank.store l.engine.bank) l.tracer) l.telling l.fn.section l.section l.fn.page l.page;
   refused : l.page.out.now.refused ≡ l.fn.page.out.now.refused;
   same_output : IsSameOutput l.fn.page.out.now l.page.out.now;
   same_page : IsSamePage l.fn.page l.page;

@@ -1,21 +1,29 @@
-use Rattle.std.proofs.Common.{ap, ◌∙◌, is_some}
-use Rattle.rx_table.proofs.MadeLemmas.{applied-there, body-appl}
+use Rattle.std.specs.Option.{option_map}
+use Rattle.rx_term.specs.Tree.{annotated, items_of, list_of, none}
+use Rattle.rx_term.specs.Walks.{held_tree}
+use Rattle.rx_term.proofs.StoreLemmas.{Grows-made, Grows-trans}
+use Rattle.rx_table.specs.Inner.Made.{Gives, each, remade}
+use Rattle.rx_table.proofs.MadeLemmas.{body-cons, hole-has, ok-by}
 use Rattle.rx_table.proofs.made.made_body.Goals as goal
 
-pub appl-requires : goal.appl-requires
-appl-requires g c = applied-there (g.B.TermBank.store c.args.bank.now) c.args.t c.in-Appl.symbol c.in-Appl.ensures c.args-in-Appl.result
-    c.args-in-Appl.ensures (g.B.TermBank.store c.made_list-in-Appl.new.bank) c.made_list-in-Appl.ensures.grows c.in_ok-args-in-Appl.args
-    c.in_ok-args-in-Appl.ensures.held
+pub made_of-requires : goal.made_of-requires
+made_of-requires g c =
+    let v = g.B.TermBank.store c.args.from.now in
+    let w = g.C.TermBank.store c.args.to.now in
+    hole-has v w w c.args.made.now c.args.content c.args.t c.in-Hole.ensures c.inner.result c.inner.ensures (g.met.B.TermBank.sound c.args.from.now)
+    c.requires.has
 
-pub returns-in_ok-appl-in-Appl-clause-body : goal.returns-in_ok-appl-in-Appl-clause-body
-returns-in_ok-appl-in-Appl-clause-body g c = λ f m.
-    body-appl (g.B.TermBank.store c.args.bank.now) c.args.t c.in-Appl.symbol c.in-Appl.ensures c.args-in-Appl.result
-    c.args-in-Appl.ensures (g.B.TermBank.store c.made_list-in-Appl.new.bank) (g.B.TermBank.store c.appl.new.self) c.made_list-in-Appl.ensures.grows
-    c.in_ok-args-in-Appl.args c.in_ok-appl-in-Appl.field-0 f (c.in_ok-args-in-Appl.ensures.list f m) c.in_ok-appl-in-Appl.ensures
+pub returns-in-Cons-clause-body : goal.returns-in-Cons-clause-body
+returns-in-Cons-clause-body g c =
+    let v = g.B.TermBank.store c.args.from.now in
+    let w = g.C.TermBank.store c.args.to.now in
+    let u = g.C.TermBank.store c.made_list.new.to in
+    let made = c.args.made.now in
+    let t = held_tree v c.args.t in
+    ok-by (Gives v w made u (λ f. option_map list_of (each f (items_of t)))) (Gives v w made u (λ f. remade c.args.content f (annotated t none)))
+    (λ r h. body-cons v w u made c.args.content c.args.t r c.in-Cons.ensures h) c.made_list.result c.made_list.ensures.list
 
-pub returns-in_ok-appl-in-Appl-clause-held : goal.returns-in_ok-appl-in-Appl-clause-held
-returns-in_ok-appl-in-Appl-clause-held g c =
-    let there = applied-there (g.B.TermBank.store c.args.bank.now) c.args.t c.in-Appl.symbol c.in-Appl.ensures c.args-in-Appl.result
-    c.args-in-Appl.ensures (g.B.TermBank.store c.made_list-in-Appl.new.bank) c.made_list-in-Appl.ensures.grows c.in_ok-args-in-Appl.args
-    c.in_ok-args-in-Appl.ensures.held in
-    ap is_some c.in_ok-appl-in-Appl.ensures.made ∙ there
+pub returns-in_ok-symbol-in-Appl-clause-grows : goal.returns-in_ok-symbol-in-Appl-clause-grows
+returns-in_ok-symbol-in-Appl-clause-grows g c =
+    Grows-trans c.made_list-in-Appl.ensures.grows
+    (Grows-trans c.symbol_in.ensures.grows (Grows-made _ _ _ c.appl.result c.appl.ensures))

@@ -4,22 +4,22 @@ use Rattle.rx_table.proofs.MadeLemmas.{making-begins, making-ends, making-longer
 use Rattle.rx_table.proofs.made.make_list.Goals as goal
 
 pub loop-item-init : goal.loop-item-init
-loop-item-init g c = making-begins (g.B.TermBank.store c.args.bank.now) (g.B.TermBank.store c.nil.new.self) c.args.items.now.items c.in_ok-list.list
+loop-item-init g c = making-begins (g.C.TermBank.store c.args.to.now) (g.C.TermBank.store c.nil.new.self) c.args.items.now.items c.in_ok-list.list
     c.requires.0 c.requires.1 c.in_ok-list.ensures
 
 pub cons-requires : goal.cons-requires
-cons-requires g c = making-longer (g.B.TermBank.store c.args.bank.now) c.args.items.now.items c.loop-item.items.items c.pop.new.self.items
-    (g.B.TermBank.store c.loop-item.bank) c.loop-item.list c.in-Some.item c.loop-item.invariant c.in-Some.ensures.items
+cons-requires g c = making-longer (g.C.TermBank.store c.args.to.now) c.args.items.now.items c.loop-item.items.items c.pop.new.self.items
+    (g.C.TermBank.store c.loop-item.to) c.loop-item.list c.in-Some.item c.loop-item.invariant c.in-Some.ensures.items
 
 pub loop-item-preserved : goal.loop-item-preserved
-loop-item-preserved g c = making-next (g.B.TermBank.store c.args.bank.now) c.args.items.now.items c.loop-item.items.items c.pop.new.self.items
-    (g.B.TermBank.store c.loop-item.bank) c.loop-item.list c.in-Some.item c.loop-item.invariant c.in-Some.ensures.items
-    (g.B.TermBank.store c.cons.new.self) c.in_ok-list-2.list c.in_ok-list-2.ensures
+loop-item-preserved g c = making-next (g.C.TermBank.store c.args.to.now) c.args.items.now.items c.loop-item.items.items c.pop.new.self.items
+    (g.C.TermBank.store c.loop-item.to) c.loop-item.list c.in-Some.item c.loop-item.invariant c.in-Some.ensures.items
+    (g.C.TermBank.store c.cons.new.self) c.in_ok-list-2.list c.in_ok-list-2.ensures
 
 pub returns-clause-list : goal.returns-clause-list
 returns-clause-list g c = λ us h.
     let e : c.loop-item.items.items ≡ [] = search rules in
-    making-ends (g.B.TermBank.store c.args.bank.now) c.args.items.now.items c.loop-item.items.items (g.B.TermBank.store c.loop-item.bank)
+    making-ends (g.C.TermBank.store c.args.to.now) c.args.items.now.items c.loop-item.items.items (g.C.TermBank.store c.loop-item.to)
     c.loop-item.list c.loop-item.invariant e us h
 
 pub returns-in_err-list-clause-grows : goal.returns-in_err-list-clause-grows

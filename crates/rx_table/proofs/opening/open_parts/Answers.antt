@@ -1,63 +1,56 @@
-use Rattle.std.proofs.Common.{Some, None, get_or, refl}
+use Rattle.std.proofs.Common.{None, Some, get_or, refl, subst}
 use Rattle.rx_term.specs.Walks.{held_tree, held_trees}
+use Rattle.rx_table.specs.Opened.{opened}
 use Rattle.rx_table.specs.Inner.Walk.{term_of}
-use Rattle.rx_table.proofs.OpeningLemmas.{held-still, opened-as, opens-still, part-broken, part-ready, parts-end, parts-next}
+use Rattle.rx_table.specs.Inner.Made.{HasAll}
+use Rattle.rx_table.proofs.WalkLemmas.{flat-inside}
+use Rattle.rx_table.proofs.EntryLemmas.{part-has, parts-next}
+use Rattle.rx_table.proofs.OpeningLemmas.{opened-as, opens-still, part-broken}
 use Rattle.rx_table.proofs.opening.open_parts.Goals as goal
 
-pub open_part-requires-clause-held : goal.open_part-requires-clause-held
-open_part-requires-clause-held g c =
-    let w = g.B.TermBank.store c.args.bank.now in
+pub open_part-requires-clause-opens : goal.open_part-requires-clause-opens
+open_part-requires-clause-opens g c =
     let l = c.loop-part in
-    (part-ready w (held_trees w c.args.elements.now) c.args.parts.now c.args.made.now l.part-index (g.B.TermBank.store l.bank) l.made
-    c.loop-part-test.true c.requires.parts c.requires.order l.invariant).0
+    opens-still (g.B.TermBank.store c.args.from.now) (g.C.TermBank.store c.args.to.now) (g.C.TermBank.store l.to) l.invariant.grows
+    c.args.elements.now c.requires.elements l.made l.invariant.terms
 
 pub open_part-requires-clause-has : goal.open_part-requires-clause-has
 open_part-requires-clause-has g c =
-    let w = g.B.TermBank.store c.args.bank.now in
+    let v = g.B.TermBank.store c.args.from.now in
+    let w = g.C.TermBank.store c.args.to.now in
     let l = c.loop-part in
-    (part-ready w (held_trees w c.args.elements.now) c.args.parts.now c.args.made.now l.part-index (g.B.TermBank.store l.bank) l.made
-    c.loop-part-test.true c.requires.parts c.requires.order l.invariant).1
-
-pub open_part-requires-clause-elements : goal.open_part-requires-clause-elements
-open_part-requires-clause-elements g c = held-still (g.B.TermBank.store c.args.bank.now) (g.B.TermBank.store c.loop-part.bank)
-    c.loop-part.invariant.grows c.args.elements.now c.requires.elements
-
-pub open_part-requires-clause-opens : goal.open_part-requires-clause-opens
-open_part-requires-clause-opens g c = opens-still (g.B.TermBank.store c.args.bank.now) (g.B.TermBank.store c.loop-part.bank)
-    c.loop-part.invariant.grows c.args.elements.now c.requires.elements c.loop-part.made c.loop-part.invariant.opens
+    subst (HasAll v l.made) (flat-inside (held_tree v (term_of (get_or c.args.parts.now l.part-index 0))))
+    (part-has v w (opened (held_trees w c.args.elements.now)) c.args.parts.now c.args.made.now l.part-index (g.C.TermBank.store l.to) l.made
+    c.loop-part-test.true c.requires.order.0 c.requires.order.1 c.requires.order.2 l.invariant)
 
 pub loop-part-preserved : goal.loop-part-preserved
 loop-part-preserved g c =
-    let w = g.B.TermBank.store c.args.bank.now in
+    let v = g.B.TermBank.store c.args.from.now in
+    let w = g.C.TermBank.store c.args.to.now in
     let l = c.loop-part in
-    let v = g.B.TermBank.store l.bank in
-    let u = g.B.TermBank.store c.open_part.new.bank in
+    let m = g.C.TermBank.store l.to in
+    let u = g.C.TermBank.store c.open_part.new.to in
     let t = held_tree v (term_of (get_or c.args.parts.now l.part-index 0)) in
-    parts-next w (held_trees w c.args.elements.now) c.args.parts.now c.args.made.now l.part-index v u l.made c.insert.new.self c.in-Some.opened
-    c.loop-part-test.true c.requires.parts l.invariant c.open_part.ensures.grows
-    (opened-as w v u l.invariant.grows c.args.elements.now c.requires.elements t c.in_ok-opened.field-0 (Some c.in-Some.opened) c.in-Some.is
-    c.in_ok-opened.ensures.opened)
-    c.in_ok-insert-in-Some.ensures.updates.0
+    let r = c.in-Some.opened in
+    let is = opened-as w m u l.invariant.grows c.args.elements.now c.requires.elements t c.in_ok-opened.field-0 (Some r) c.in-Some.is
+    c.in_ok-opened.ensures.opened in
+    parts-next v w (opened (held_trees w c.args.elements.now)) c.args.parts.now c.args.made.now l.part-index m u l.made c.insert.new.self r
+    c.loop-part-test.true c.requires.parts l.invariant c.open_part.ensures.grows is.1 is.0 c.in_ok-insert-in-Some.ensures.updates.0
 
 pub returns-in-None-clause-refused : goal.returns-in-None-clause-refused
 returns-in-None-clause-refused g c =
-    let w = g.B.TermBank.store c.args.bank.now in
+    let v = g.B.TermBank.store c.args.from.now in
+    let w = g.C.TermBank.store c.args.to.now in
     let l = c.loop-part in
-    let v = g.B.TermBank.store l.bank in
-    let u = g.B.TermBank.store c.open_part.new.bank in
     let t = held_tree v (term_of (get_or c.args.parts.now l.part-index 0)) in (
       refl,
-      part-broken w (held_trees w c.args.elements.now) c.args.parts.now l.part-index v c.loop-part-test.true c.requires.parts l.invariant.grows
-          (opened-as w v u l.invariant.grows c.args.elements.now c.requires.elements t c.in_ok-opened.field-0 None c.in-None.is
-          c.in_ok-opened.ensures.opened),
+      part-broken v (held_trees w c.args.elements.now) c.args.parts.now l.part-index c.loop-part-test.true
+          (opened-as w (g.C.TermBank.store l.to) (g.C.TermBank.store c.open_part.new.to) l.invariant.grows c.args.elements.now c.requires.elements t
+          c.in_ok-opened.field-0 None c.in-None.is c.in_ok-opened.ensures.opened),
     )
 
 pub returns-clause-opens : goal.returns-clause-opens
-returns-clause-opens g c = opens-still (g.B.TermBank.store c.args.bank.now) (g.B.TermBank.store c.loop-part.bank) c.loop-part.invariant.grows
-    c.args.elements.now c.requires.elements c.loop-part.made c.loop-part.invariant.opens
-
-pub returns-clause-has : goal.returns-clause-has
-returns-clause-has g c =
-    let w = g.B.TermBank.store c.args.bank.now in
-    parts-end w (held_trees w c.args.elements.now) c.args.parts.now c.args.made.now c.loop-part.part-index (g.B.TermBank.store c.loop-part.bank)
-    c.loop-part.made c.loop-part-test.false c.loop-part.invariant
+returns-clause-opens g c =
+    let l = c.loop-part in
+    opens-still (g.B.TermBank.store c.args.from.now) (g.C.TermBank.store c.args.to.now) (g.C.TermBank.store l.to) l.invariant.grows
+    c.args.elements.now c.requires.elements l.made l.invariant.terms

@@ -1,69 +1,56 @@
-use Rattle.std.proofs.Common.{◌≡◌, [], Ok, Option, Some, filter, length, sym, ap, subst, ◌∙◌, arith}
+use Rattle.std.proofs.Common.{◌≡◌, Ok, filter, length, sym, ap, ◌∙◌, arith}
 use Rattle.std.proofs.lemmas.List.{length-map}
-use Rattle.rx_term.specs.Tree.{Tree}
 use Rattle.rx_term.specs.Walks.{held_tree}
 use Rattle.rx_term.proofs.StoreLemmas.{Grows-trans}
-use Rattle.rx_table.specs.Table.{different, is_shared, shared, subterms, written}
-use Rattle.rx_table.specs.Inner.Walk.{Begun, term_of, trees_of}
-use Rattle.rx_table.specs.Inner.Made.{HasAll, HasOne, entries_of, some_written}
-use Rattle.rx_table.proofs.SubtermLemmas.{all-at, begun-different, begun-none, begun-subterms}
-use Rattle.rx_table.proofs.MadeLemmas.{held-grown}
-use Rattle.rx_table.proofs.EntryLemmas.{elements-have, table-answers, tree-among}
+use Rattle.rx_table.specs.Table.{different, is_shared, shared, subterms}
+use Rattle.rx_table.specs.Inner.Walk.{term_of, trees_of}
+use Rattle.rx_table.specs.Inner.Made.{entries_of, some_written}
+use Rattle.rx_table.proofs.EntryLemmas.{elements-have, root-got, root-made, slice-begun, slice-trees, table-answers}
 use Rattle.rx_table.proofs.table.make_table.Goals as goal
 
 pub returns-then-len-gt-MOST-clause-long : goal.returns-then-len-gt-MOST-clause-long
 returns-then-len-gt-MOST-clause-long g c = λ h.
-    let w = g.B.TermBank.store c.args.bank.now in
-    let t = held_tree w c.args.t in
-    let e : trees_of w c.as_slice.result.now ≡ different (subterms t) = ap (trees_of w) c.as_slice.ensures.keys
-    ∙ c.in_ok-collect.ensures.trees [] begun-none (ap (trees_of w) c.new-parts.ensures.empty) in
-    let same : trees_of w c.in_ok-shared.shared.keys ≡ shared t = c.in_ok-shared.ensures.shared ∙ ap (λ z. filter (is_shared z) z) e in
+    let v = g.B.TermBank.store c.args.from.now in
+    let t = held_tree v c.args.t in
+    let e = slice-trees v c.args.t c.requires c.in_ok-parts.parts.keys c.as_slice.result.now c.in_ok-parts.ensures.trees c.as_slice.ensures.keys in
+    let same : trees_of v c.in_ok-shared.shared.keys ≡ shared t = c.in_ok-shared.ensures.shared ∙ ap (λ z. filter (is_shared z) z) e in
     let n = ap length same in
-    let m = length-map c.in_ok-shared.shared.keys (λ k. held_tree w (term_of k)) in
+    let m = length-map c.in_ok-shared.shared.keys (λ k. held_tree v (term_of k)) in
     let l = c.len.ensures.len in
     let b = c.if-len-gt-MOST.true in
     omega (arith, n, m, l, b)
 
 pub make_entries-requires-clause-order : goal.make_entries-requires-clause-order
 make_entries-requires-clause-order g c =
-    let w = g.B.TermBank.store c.args.bank.now in
-    let t = held_tree w c.args.t in
-    let e : trees_of w c.as_slice-2.result.now ≡ different (subterms t) = ap (trees_of w) c.as_slice-2.ensures.keys
-    ∙ c.in_ok-collect.ensures.trees [] begun-none (ap (trees_of w) c.new-parts.ensures.empty) in
-    subst Begun (sym e) (begun-different (subterms t) (begun-subterms t))
+    slice-begun (g.B.TermBank.store c.args.from.now) c.args.t c.requires c.in_ok-parts.parts.keys c.as_slice-2.result.now
+    c.in_ok-parts.ensures.trees c.as_slice-2.ensures.keys
 
-pub made_of-requires-clause-has : goal.made_of-requires-clause-has
-made_of-requires-clause-has g c =
-    let w = g.B.TermBank.store c.args.bank.now in
-    let v = g.B.TermBank.store c.make_entries.new.bank in
-    let t = held_tree w c.args.t in
-    let e : trees_of w c.as_slice-2.result.now ≡ different (subterms t) = ap (trees_of w) c.as_slice-2.ensures.keys
-    ∙ c.in_ok-collect.ensures.trees [] begun-none (ap (trees_of w) c.new-parts.ensures.empty) in
-    let all = subst (HasAll v c.make_entries.new.made) e c.in_ok-elements.ensures.has in
-    let one = all-at (HasOne v c.make_entries.new.made) (different (subterms t)) t all (tree-among t) in
-    subst (HasOne v c.make_entries.new.made) (sym (held-grown w v c.make_entries.ensures.grows c.args.t c.requires)) one
+pub made_of-requires : goal.made_of-requires
+made_of-requires g c =
+    root-got (g.B.TermBank.store c.args.from.now) c.args.t c.requires c.in_ok-parts.parts.keys c.as_slice-2.result.now c.in_ok-parts.ensures.trees
+    c.as_slice-2.ensures.keys (g.met.B.TermBank.sound c.args.from.now) c.make_entries.new.made c.in_ok-elements.ensures.has
 
 pub make_list-requires : goal.make_list-requires
 make_list-requires g c =
-    let w = g.B.TermBank.store c.args.bank.now in
-    elements-have (g.B.TermBank.store c.make_entries.new.bank) c.push.new.self.items c.in_ok-elements.elements.items c.made_of.result
-    (entries_of (trees_of w c.in_ok-shared.shared.keys) (trees_of w c.as_slice-2.result.now)) c.in_ok-elements.ensures.entries c.made_of.ensures.held
-    c.in_ok-push.ensures.items
+    let v = g.B.TermBank.store c.args.from.now in
+    elements-have (g.C.TermBank.store c.make_entries.new.to) c.push.new.self.items c.in_ok-elements.elements.items c.made_of.result
+    (entries_of (trees_of v c.in_ok-shared.shared.keys) (trees_of v c.as_slice-2.result.now)) c.in_ok-elements.ensures.entries
+    (c.in_ok-elements.ensures.made c.args.t.0 c.made_of.result c.made_of.ensures).0 c.in_ok-push.ensures.items
 
 pub returns-clause-table : goal.returns-clause-table
 returns-clause-table g c =
-    let w = g.B.TermBank.store c.args.bank.now in
-    let v = g.B.TermBank.store c.make_entries.new.bank in
-    let t = held_tree w c.args.t in
-    let qs = trees_of w c.as_slice-2.result.now in
-    let ps = trees_of w c.in_ok-shared.shared.keys in
-    let e : qs ≡ different (subterms t) = ap (trees_of w) c.as_slice-2.ensures.keys
-    ∙ c.in_ok-collect.ensures.trees [] begun-none (ap (trees_of w) c.new-parts.ensures.empty) in
+    let v = g.B.TermBank.store c.args.from.now in
+    let w = g.C.TermBank.store c.make_entries.new.to in
+    let t = held_tree v c.args.t in
+    let qs = trees_of v c.as_slice-2.result.now in
+    let ps = trees_of v c.in_ok-shared.shared.keys in
+    let e : qs ≡ different (subterms t) =
+    slice-trees v c.args.t c.requires c.in_ok-parts.parts.keys c.as_slice-2.result.now c.in_ok-parts.ensures.trees c.as_slice-2.ensures.keys in
     let f : ps ≡ filter (is_shared qs) qs = c.in_ok-shared.ensures.shared
-    ∙ ap (λ z. filter (is_shared (trees_of w z)) (trees_of w z)) (c.as_slice.ensures.keys ∙ sym c.as_slice-2.ensures.keys) in
-    let last = sym (c.made_of.ensures.made (some_written ps) c.in_ok-elements.ensures.made)
-    ∙ ap (λ z. let o : Option Tree = Some (written ps z) in o) (held-grown w v c.make_entries.ensures.grows c.args.t c.requires) in
-    table-answers v (g.B.TermBank.store c.make_list.new.bank) c.push.new.self.items c.made_of.result t qs ps c.in_ok-elements.elements.items e f
+    ∙ ap (λ z. filter (is_shared (trees_of v z)) (trees_of v z)) (c.as_slice.ensures.keys ∙ sym c.as_slice-2.ensures.keys) in
+    let last = sym (root-made v w (some_written ps) c.make_entries.new.made c.args.t c.in_ok-elements.ensures.made c.requires c.made_of.result
+    c.made_of.ensures) in
+    table-answers w (g.C.TermBank.store c.make_list.new.to) c.push.new.self.items c.made_of.result t qs ps c.in_ok-elements.elements.items e f
     c.in_ok-elements.ensures.entries last c.in_ok-push.ensures.items (Ok c.in_ok-make_list.field-0) c.in_ok-make_list.ensures.list
 
 pub returns-clause-grows : goal.returns-clause-grows

@@ -1,14 +1,7 @@
-use Rattle.std.proofs.Common.{◌≡◌, sym, subst, Result, Ok, Err}
-use Rattle.std.specs.Prelude.{IfOk, IfErr}
+use Rattle.std.proofs.Common.{sym, subst}
 use Rattle.psilt_core.specs.Evaluating.{Comes}
-use Rattle.psilt_core.proofs.EvaluatingLemmas.{comes_told, not_deep}
+use Rattle.psilt_core.proofs.EvaluatingLemmas.{comes_told, not_deep, of_err, of_ok}
 use Rattle.psilt_core.proofs.work.Work.normalise_given.Goals as goal
-
-of_ok : {A E : Type 0} (P : A → Type 0) (r : Result A E) (a : A) → r ≡ Ok a → IfOk r P → P a
-of_ok P r a e h = subst (λ x. IfOk x P) e h
-
-of_err : {A E : Type 0} (P : E → Type 0) (r : Result A E) (a : E) → r ≡ Err a → IfErr r P → P a
-of_err P r a e h = subst (λ x. IfErr x P) e h
 
 pub returns-in-Ok-clause-answer : goal.returns-in-Ok-clause-answer
 returns-in-Ok-clause-answer g c =

@@ -2,10 +2,10 @@ use Rattle.std.proofs.Common.{IfOk, ◌≡◌, subst}
 use Rattle.rec_run.specs.Output.{shown_of}
 use Rattle.rec_run.specs.Depth.{IsBounded}
 use Rattle.rec_run.specs.GivenTerms.{run_due}
-use Rattle.rec_run.specs.Reports.{job_limits}
+use Rattle.rec_run.specs.Reports.{job_counts}
 use Rattle.rec_run.specs.declared.spec.due.RunReport.{RunReport}
 use Rattle.rec_run.specs.Run.{HasRoom, RoomExhausts}
-use Rattle.rec_run.proofs.RunEndLemmas.{ends_behind, err_behind, fault_behind, limits_behind, ok_behind, on_behind, reported, reports_behind}
+use Rattle.rec_run.proofs.RunEndLemmas.{counts_behind, ends_behind, err_behind, fault_behind, ok_behind, on_behind, reported, reports_behind}
 use Rattle.rec_run.proofs.spec.due.answer.Goals as goal
 
 pub returns-clause-ends : goal.returns-clause-ends
@@ -44,10 +44,11 @@ returns-clause-told g c =
     let written = c.write_due-written.result.written in
     on_behind _ _ _ _ written c.end_run.result c.end_run.ensures.ends c.write_due-written.ensures.told
 
-pub returns-clause-limits : goal.returns-clause-limits
-returns-clause-limits g c =
-    limits_behind _ _ _ (λ k. k ≡ job_limits (g.B.TermBank.store c.args.bank) c.args.run.settings.form c.args.run.settings.options.steps c.args.reading)
-    c.write_due-written.result.written c.end_run.result c.end_run.ensures.ends c.write_due-written.ensures.limits
+pub returns-clause-counts : goal.returns-clause-counts
+returns-clause-counts g c =
+    counts_behind _ _ _ (λ k. k ≡ job_counts (g.B.TermBank.store c.args.bank) c.args.run.settings.terms c.args.run.settings.form
+    c.args.run.settings.options.steps c.args.reading) c.write_due-written.result.written c.end_run.result c.end_run.ensures.ends
+    c.write_due-written.ensures.counts
 
 pub end_run-requires : goal.end_run-requires
 end_run-requires g c = record { told = reported c.args.out.now c.write_due-written.new.out c.write_due-written.result.written c.write_due-written.ensures.reports }

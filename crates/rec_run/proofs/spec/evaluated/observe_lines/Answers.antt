@@ -1,8 +1,8 @@
-use Rattle.std.proofs.Common.{◌≡◌, ◌<◌, ◌+◌, ◌++◌, ap, length, subst, sym, ◌∙◌}
+use Rattle.std.proofs.Common.{◌≡◌, ◌<◌, ◌++◌, ap, length, subst, sym, ◌∙◌}
 use Rattle.rec_syntax.specs.Syntax.{Spec}
 use Rattle.std.proofs.lemmas.Result.{IfOk-weaker}
 use Rattle.rx_run.proofs.ErrorLemmas.{on_ok_of}
-use Rattle.rec_run.specs.Output.{limit_lines}
+use Rattle.rec_run.specs.Output.{chosen, counts_of}
 use Rattle.rec_run.specs.GivenTerms.{given_by}
 use Rattle.rec_run.specs.Reports.{StaysReady, report_of}
 use Rattle.rec_run.specs.EvaluatedLines.{ProtectsTerms}
@@ -34,18 +34,19 @@ returns-clause-told g c =
     on_ok_of c.write_lines-written.result
     (λ h source ready. ap (λ r. g.S.Reporter.told r) c.conclude.ensures
     ∙ h source (subst (λ (x : Spec). g.S.Reporter.is_ready c.args.observer.now.reporter source x) (sym c.begin.ensures.same.spec) ready)
-    ∙ ap (λ x. old ++ report_of says source x (given_by (g.B.TermBank.store c.begin.new.engine.bank) c.args.list) n) c.begin.ensures.same.spec
-    ∙ ap (λ b. old ++ report_of says source y (given_by (g.B.TermBank.store b) c.args.list) n) c.begin.ensures.bank)
+    ∙ ap (λ x. old ++ report_of c.args.run.settings.terms says source x (given_by (g.B.TermBank.store c.begin.new.engine.bank) c.args.list) n) c.begin.ensures.same.spec
+    ∙ ap (λ b. old ++ report_of c.args.run.settings.terms says source y (given_by (g.B.TermBank.store b) c.args.list) n) c.begin.ensures.bank)
     c.write_lines-written.ensures.told
 
-pub returns-clause-limits : goal.returns-clause-limits
-returns-clause-limits g c =
+pub returns-clause-counts : goal.returns-clause-counts
+returns-clause-counts g c =
     let y = c.args.engine.now.spec in
     let n = c.args.run.settings.options.steps in
     IfOk-weaker c.write_lines-written.result _ _
-    (λ k h. h ∙ ap (λ x. limit_lines x (given_by (g.B.TermBank.store c.begin.new.engine.bank) c.args.list) c.args.run.settings.form n) c.begin.ensures.same.spec
-    ∙ ap (λ b. limit_lines y (given_by (g.B.TermBank.store b) c.args.list) c.args.run.settings.form n) c.begin.ensures.bank)
-    c.write_lines-written.ensures.limits
+    (λ k h. h ∙ ap (λ x. counts_of c.args.run.settings.terms x (given_by (g.B.TermBank.store c.begin.new.engine.bank) c.args.list)
+    c.args.run.settings.form n) c.begin.ensures.same.spec
+    ∙ ap (λ b. counts_of c.args.run.settings.terms y (given_by (g.B.TermBank.store b) c.args.list) c.args.run.settings.form n) c.begin.ensures.bank)
+    c.write_lines-written.ensures.counts
 
 pub returns-clause-bound : goal.returns-clause-bound
 returns-clause-bound g c =
@@ -53,8 +54,9 @@ returns-clause-bound g c =
     let w = g.B.TermBank.store c.args.engine.now.bank in
     let begun = c.begin.new.engine in
     let new = c.write_lines-written.new.engine in
-    let count : length begun.spec.terms + length (given_by (g.B.TermBank.store begun.bank) c.args.list) ≡ length y.terms + length (given_by w c.args.list) =
-    ap (λ (x : Spec). length x.terms + length (given_by (g.B.TermBank.store begun.bank) c.args.list)) c.begin.ensures.same.spec
-    ∙ ap (λ b. length y.terms + length (given_by (g.B.TermBank.store b) c.args.list)) c.begin.ensures.bank in
+    let terms = c.args.run.settings.terms in
+    let count : length (chosen terms begun.spec (given_by (g.B.TermBank.store begun.bank) c.args.list)) ≡ length (chosen terms y (given_by w c.args.list)) =
+    ap (λ (x : Spec). length (chosen terms x (given_by (g.B.TermBank.store begun.bank) c.args.list))) c.begin.ensures.same.spec
+    ∙ ap (λ b. length (chosen terms y (given_by (g.B.TermBank.store b) c.args.list))) c.begin.ensures.bank in
     on_ok_of c.write_lines-written.result
     (λ h some. depth-some _ c.args.run.settings.depth begun new h (subst (λ k. 0 < k) (sym count) some)) c.write_lines-written.ensures.bound

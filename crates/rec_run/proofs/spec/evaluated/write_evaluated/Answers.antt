@@ -14,6 +14,6 @@ returns-in-Err-clause-err g c =
 pub returns-in-Ok-clause-told : goal.returns-in-Ok-clause-told
 returns-in-Ok-clause-told g c =
     on_ok_of c.write_ready.result.written
-    (λ h. h ∙ ap (λ t. t ++ report_of g.S.Reporter.says c.args.job.checked.source c.args.job.checked.spec
+    (λ h. h ∙ ap (λ t. t ++ report_of c.args.run.settings.terms g.S.Reporter.says c.args.job.checked.source c.args.job.checked.spec
     (given_by (g.B.TermBank.store c.args.bank) c.args.job.list) c.args.run.settings.options.steps) c.begin.ensures.told)
     c.write_ready.ensures.told

@@ -1,11 +1,11 @@
-use Rattle.std.proofs.Common.{◌++◌, IfErr, ap, refl, subst, sym, ◌∙◌}
+use Rattle.std.proofs.Common.{◌++◌, IfErr, ap, subst, sym, ◌∙◌}
 use Rattle.rec_syntax.specs.Syntax.{Spec}
 use Rattle.rx_run.proofs.ErrorLemmas.{on_ok_of}
 use Rattle.rec_run.specs.Reports.{report_of}
 use Rattle.std.proofs.lemmas.Result.{IfErr-weaker, IfOk-weaker}
 use Rattle.rec_run.specs.GivenTerms.{given_by}
 use Rattle.rec_run.specs.EvaluatedLines.{ProtectsTerms}
-use Rattle.rec_run.specs.Output.{limit_lines, lines, shown_of}
+use Rattle.rec_run.specs.Output.{counts_of, lines, shown_of}
 use Rattle.rec_run.specs.Run.{RoomExhausts}
 use Rattle.rec_run.proofs.DepthLemmas.{bounded_by}
 use Rattle.rec_run.proofs.EvaluatedLemmas.{stops_unwritten}
@@ -53,15 +53,16 @@ returns-in-Ok-clause-told g c =
     let says = g.S.Reporter.says in
     on_ok_of c.observe_lines-written.result
     (λ h. h source (subst (λ (x : Spec). g.S.Reporter.is_ready c.args.observer.now.reporter source x) (sym c.in-Ok.ensures.spec) c.requires.ready)
-    ∙ ap (λ x. old ++ report_of says source x (given_by (g.B.TermBank.store c.in-Ok.engine.bank) c.args.job.list) n) c.in-Ok.ensures.spec
-    ∙ ap (λ us. old ++ report_of says source y us n) c.in-Ok.ensures.terms)
+    ∙ ap (λ x. old ++ report_of c.args.run.settings.terms says source x (given_by (g.B.TermBank.store c.in-Ok.engine.bank) c.args.job.list) n) c.in-Ok.ensures.spec
+    ∙ ap (λ us. old ++ report_of c.args.run.settings.terms says source y us n) c.in-Ok.ensures.terms)
     c.observe_lines-written.ensures.told
 
-pub returns-in-Ok-clause-limits : goal.returns-in-Ok-clause-limits
-returns-in-Ok-clause-limits g c =
+pub returns-in-Ok-clause-counts : goal.returns-in-Ok-clause-counts
+returns-in-Ok-clause-counts g c =
     let y = c.args.job.checked.spec in
     let n = c.args.run.settings.options.steps in
     IfOk-weaker c.observe_lines-written.result _ _
-    (λ k h. h ∙ ap (λ x. limit_lines x (given_by (g.B.TermBank.store c.in-Ok.engine.bank) c.args.job.list) c.args.run.settings.form n) c.in-Ok.ensures.spec
-    ∙ ap (λ us. limit_lines y us c.args.run.settings.form n) c.in-Ok.ensures.terms)
-    c.observe_lines-written.ensures.limits
+    (λ k h. h ∙ ap (λ x. counts_of c.args.run.settings.terms x (given_by (g.B.TermBank.store c.in-Ok.engine.bank) c.args.job.list)
+    c.args.run.settings.form n) c.in-Ok.ensures.spec
+    ∙ ap (λ us. counts_of c.args.run.settings.terms y us c.args.run.settings.form n) c.in-Ok.ensures.terms)
+    c.observe_lines-written.ensures.counts

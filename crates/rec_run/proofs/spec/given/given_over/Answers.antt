@@ -10,7 +10,7 @@ use Rattle.rec_run.proofs.DepthLemmas.{bounded_any}
 use Rattle.rec_run.proofs.FaultLemmas.{exhausts_in, fills_in}
 use Rattle.rec_run.proofs.GivenDueLemmas.{due_read, refused_map, refused_map₂}
 use Rattle.rec_run.proofs.RunEndLemmas.{breaks_run, concludes_run}
-use Rattle.rec_run.proofs.ToldLemmas.{limits-by, tells-by}
+use Rattle.rec_run.proofs.ToldLemmas.{limits-by, lines-by, tells-by}
 use Rattle.rx_run.proofs.WholeRunLemmas.{breaks_unwritten}
 use Rattle.rec_run.proofs.WholeRunLemmas.{due_for, one_due_for}
 use Rattle.rec_run.proofs.ReadsLemmas.{reads_over}
@@ -74,13 +74,17 @@ returns-in-Ok-clause-reads g c = reads_over c.args.spec.now c.read_given_from.ne
     c.in-Ok.ensures.reads c.answer.ensures.reports.1
 
 pub returns-in-Ok-clause-told : goal.returns-in-Ok-clause-told
-returns-in-Ok-clause-told g c = tells-by g.S.Reporter.says c.answer.result.end (g.B.TermBank.store c.read_given_from.new.bank)
+returns-in-Ok-clause-told g c = tells-by c.args.settings.terms g.S.Reporter.says c.answer.result.end (g.B.TermBank.store c.read_given_from.new.bank)
     c.args.settings.options.steps _ c.in-Ok.reading (g.S.Reporter.told c.args.observer.now.reporter) (g.S.Reporter.told c.answer.new.observer.reporter)
     c.in-Ok.ensures.read c.answer.ensures.told
 
+pub returns-in-Ok-clause-lines : goal.returns-in-Ok-clause-lines
+returns-in-Ok-clause-lines g c = lines-by c.answer.result.end (g.B.TermBank.store c.read_given_from.new.bank) c.args.settings.terms
+    c.args.settings.form c.args.settings.options.steps _ c.in-Ok.reading c.in-Ok.ensures.read c.answer.ensures.counts
+
 pub returns-in-Ok-clause-limits : goal.returns-in-Ok-clause-limits
-returns-in-Ok-clause-limits g c = limits-by c.answer.result.end (g.B.TermBank.store c.read_given_from.new.bank)
-    c.args.settings.form c.args.settings.options.steps _ c.in-Ok.reading c.in-Ok.ensures.read c.answer.ensures.limits
+returns-in-Ok-clause-limits g c = limits-by c.answer.result.end (g.B.TermBank.store c.read_given_from.new.bank) c.args.settings.terms
+    c.args.settings.form c.args.settings.options.steps _ c.in-Ok.reading c.in-Ok.ensures.read c.answer.ensures.counts
 
 pub returns-in-Err-clause-bounded : goal.returns-in-Err-clause-bounded
 returns-in-Err-clause-bounded g c =

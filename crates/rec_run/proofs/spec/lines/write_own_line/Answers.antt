@@ -4,8 +4,7 @@ use Rattle.std.specs.Io.KnownBytes.{Appends}
 use Rattle.rx_term.proofs.KeepLemmas.{Keeps-trans}
 use Rattle.rx_text.specs.Written.{AppendsFront}
 use Rattle.rec_run.specs.EvaluatedLines.{due_before}
-use Rattle.rec_run.specs.Output.{shown_by}
-use Rattle.rec_run.specs.declared.options.LimitLines.TheVariants.{Bare}
+use Rattle.rec_run.specs.Output.{own_shown, shown_of}
 use Rattle.rec_run.proofs.EvaluatedLemmas.{own-line}
 use Rattle.rec_syntax.specs.Syntax.{Spec}
 use Rattle.rx_run.proofs.ErrorLemmas.{on_ok_any, on_ok_of}
@@ -21,14 +20,14 @@ returns-in-Ok-clause-keeps g c = Keeps-trans c.in-Ok.ensures.keeps c.write_evalu
 
 pub returns-in-Ok-clause-ok : goal.returns-in-Ok-clause-ok
 returns-in-Ok-clause-ok g c =
-    let e = own-line _ _ (g.B.TermBank.store c.eval_term.new.self.bank) (shown_by c.args.run.settings.options.count Bare c.args.run.settings.form) c.args.run.settings.options.steps c.args.i
+    let e = own-line _ _ (g.B.TermBank.store c.eval_term.new.self.bank) (own_shown (shown_of c.args.run.settings)) c.args.run.settings.options.steps c.args.i
     c.in-Ok.term c.in-Ok.ensures.same.spec c.requires.there c.in-Ok.ensures.term in
     subst (λ text. OnOk c.write_evaluation.result (Appends (g.W.Write.contents c.args.out.now.writer.now)
     (g.W.Write.contents c.write_evaluation.new.out.writer.now) (text ++ codes "\n"))) e c.write_evaluation.ensures.ok
 
 pub returns-in-Ok-clause-err : goal.returns-in-Ok-clause-err
 returns-in-Ok-clause-err g c =
-    let e = own-line _ _ (g.B.TermBank.store c.eval_term.new.self.bank) (shown_by c.args.run.settings.options.count Bare c.args.run.settings.form) c.args.run.settings.options.steps c.args.i
+    let e = own-line _ _ (g.B.TermBank.store c.eval_term.new.self.bank) (own_shown (shown_of c.args.run.settings)) c.args.run.settings.options.steps c.args.i
     c.in-Ok.term c.in-Ok.ensures.same.spec c.requires.there c.in-Ok.ensures.term in
     subst (λ text. IfErr c.write_evaluation.result (λ fault.
     AppendsFront (due_before fault text) (g.W.Write.contents c.args.out.now.writer.now)

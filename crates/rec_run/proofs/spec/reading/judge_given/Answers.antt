@@ -1,4 +1,4 @@
-use Rattle.std.proofs.Common.{refl, subst, sym}
+use Rattle.std.proofs.Common.{subst, sym}
 use Rattle.rec_run.specs.GivenTerms.{IsReady, IsTermsRead}
 use Rattle.rec_run.proofs.GivenDueLemmas.{job_ready}
 use Rattle.rec_run.proofs.spec.reading.judge_given.Goals as goal

@@ -1,4 +1,4 @@
-use Rattle.std.proofs.Common.{◌∙◌, arith, length, subst, sym}
+use Rattle.std.proofs.Common.{◌∙◌, arith, length, rules, subst, sym}
 use Rattle.rx_term.proofs.KeepLemmas.{Keeps-trans}
 use Rattle.rec_trace.specs.Inner.Turns.{CanTurn, Moves}
 use Rattle.rec_trace.specs.Rows.{IsRow, moves_in, stack_in}
@@ -24,16 +24,20 @@ steps-preserved g c =
     let w' = g.B.TermBank.store c.write_step.new.engine.bank in
     let i = c.steps.invariant in
     record {
-      same = record { spec = c.write_step.ensures.same.spec ∙ i.same.spec; options = c.write_step.ensures.same.options ∙ i.same.options };
-      keeps = Keeps-trans i.keeps c.write_step.ensures.keeps;
+      same = record { spec = c.write_step.ensures.builds.same.spec ∙ i.same.spec; options = c.write_step.ensures.builds.same.options ∙ i.same.options };
+      keeps = Keeps-trans i.keeps c.write_step.ensures.builds.keeps;
       writing = writing-next y (g.B.TermBank.store c.args.engine.now.bank) w w' c.args.self.now c.steps.self c.write_step.new.self i.writing
           (subst (λ z. IsRow z w' c.write_step.new.self) i.same.spec c.in_ok-write_step.ensures.row)
           (subst (λ z. Moves (λ n u. Done u n) 0 0 (moves_in z w c.steps.self) (stack_in w c.steps.self) (moves_in z w' c.write_step.new.self)
           (stack_in w' c.write_step.new.self) true) i.same.spec c.in_ok-write_step.ensures.moves);
     }
 
-pub returns-in_err-write_step-clause-keeps : goal.returns-in_err-write_step-clause-keeps
-returns-in_err-write_step-clause-keeps g c = Keeps-trans c.steps.invariant.keeps c.write_step.ensures.keeps
+pub returns-in_err-write_step-clause-builds : goal.returns-in_err-write_step-clause-builds
+returns-in_err-write_step-clause-builds g c = record {
+  same = search rules;
+  keeps = Keeps-trans c.steps.invariant.keeps c.write_step.ensures.builds.keeps;
+  room = search rules;
+}
 
 pub returns-clause-written : goal.returns-clause-written
 returns-clause-written g c =

@@ -1,3 +1,4 @@
+use Rattle.std.proofs.Common.{rules}
 use Rattle.rec_trace.proofs.WholeLemmas.{keeps-none, ok-on, on-ok, step-apply, step-give, step-last}
 use Rattle.rec_trace.proofs.row.Row.write_step.Goals as goal
 
@@ -25,8 +26,12 @@ returns-in-GiveLast-clause-moves g c = on-ok c.give_last.result
     c.in-Some.step c.requires.row c.in-Some.ensures.items (let e = c.give_last.ensures.steps in cc e) c.in-GiveLast.value c.in-GiveLast.at
     c.in-GiveLast.is values).moves_are) c.give_last.ensures.values
 
-pub returns-in-Invoke-clause-keeps : goal.returns-in-Invoke-clause-keeps
-returns-in-Invoke-clause-keeps g c = keeps-none c.apply.ensures.keeps
+pub returns-in-Invoke-clause-builds : goal.returns-in-Invoke-clause-builds
+returns-in-Invoke-clause-builds g c = record {
+  same = search rules;
+  keeps = keeps-none c.apply.ensures.keeps;
+  room = search rules;
+}
 
 pub returns-in-Invoke-clause-row : goal.returns-in-Invoke-clause-row
 returns-in-Invoke-clause-row g c = ok-on c.apply.result

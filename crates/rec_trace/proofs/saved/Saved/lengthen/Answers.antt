@@ -1,20 +1,29 @@
-use Rattle.std.proofs.Common.{◌∷◌, ◌++◌, [], subst, sym}
+use Rattle.std.proofs.Common.{◌∷◌, ◌++◌, [], rules, subst, sym}
 use Rattle.rec_trace.specs.Inner.Saving.{KeepsLowest}
 use Rattle.rec_trace.specs.Lists.{Stays}
 use Rattle.rec_trace.proofs.ListLemmas.{on-err, same_both, stays-kept, stays-trans}
 use Rattle.rec_trace.proofs.SavedLemmas.{saving-next, saving-refused}
 use Rattle.rec_trace.proofs.saved.Saved.lengthen.Goals as goal
 
-pub returns-in_err-list-clause-stays : goal.returns-in_err-list-clause-stays
-returns-in_err-list-clause-stays g c =
+pub returns-in_err-list-clause-relists : goal.returns-in_err-list-clause-relists
+returns-in_err-list-clause-relists g c =
     let h = c.values.invariant.1 in
-    stays-trans h.stays (stays-kept _ _ (c.values.values.items ++ c.values.self.list ∷ []) c.values.self.list h.stays.kept c.hold_on.ensures.keeps)
+    record {
+      same = search rules;
+      stays = stays-trans h.stays (stays-kept _ _ (c.values.values.items ++ c.values.self.list ∷ []) c.values.self.list h.stays.kept c.hold_on.ensures.keeps);
+      room = search rules;
+    }
 
-pub returns-in_err-protect_instead-clause-stays : goal.returns-in_err-protect_instead-clause-stays
-returns-in_err-protect_instead-clause-stays g c =
+pub returns-in_err-protect_instead-clause-relists : goal.returns-in_err-protect_instead-clause-relists
+returns-in_err-protect_instead-clause-relists g c =
     let h = c.values.invariant.1 in
-    subst (λ x. Stays (g.B.TermBank.store c.args.engine.now.bank) x c.args.self.now.list c.values.self.list) (sym c.in_err-protect_instead.ensures.err)
-    (stays-trans h.stays (stays-kept _ _ (c.values.values.items ++ c.values.self.list ∷ []) c.values.self.list h.stays.kept c.hold_on.ensures.keeps))
+    record {
+      same = search rules;
+      stays = subst (λ x. Stays (g.B.TermBank.store c.args.engine.now.bank) x c.args.self.now.list c.values.self.list)
+          (sym c.in_err-protect_instead.ensures.err)
+          (stays-trans h.stays (stays-kept _ _ (c.values.values.items ++ c.values.self.list ∷ []) c.values.self.list h.stays.kept c.hold_on.ensures.keeps));
+      room = search rules;
+    }
 
 pub values-preserved : goal.values-preserved
 values-preserved g c = (

@@ -8,19 +8,19 @@ use Rattle.rec_trace.proofs.saved.Saved.save.Goals as goal
 pub lengthen-requires-clause-saved : goal.lengthen-requires-clause-saved
 lengthen-requires-clause-saved g c =
     shortened (g.B.TermBank.store c.args.engine.now.bank) (g.B.TermBank.store c.shorten.new.engine.bank) c.args.row.now c.args.self.now c.shorten.new.self
-    c.requires.saved c.shorten.ensures.trees c.in_ok-shorten.ensures.shortens
+    c.requires.can.saved c.shorten.ensures.trees c.in_ok-shorten.ensures.shortens
 
 pub returns-in_err-shorten-clause-keeps : goal.returns-in_err-shorten-clause-keeps
 returns-in_err-shorten-clause-keeps g c =
     row-stays (g.B.TermBank.store c.args.engine.now.bank) (g.B.TermBank.store c.shorten.new.engine.bank) c.args.row.now c.args.self.now c.shorten.new.self
-    c.requires.saved c.shorten.ensures.trees c.shorten.ensures.stays.kept c.in_err-shorten.ensures.refused
+    c.requires.can.saved c.shorten.ensures.trees c.shorten.ensures.stays.kept c.in_err-shorten.ensures.refused
 
 pub returns-in_err-lengthen-clause-keeps : goal.returns-in_err-lengthen-clause-keeps
 returns-in_err-lengthen-clause-keeps g c =
     row-refused (g.B.TermBank.store c.args.engine.now.bank) (g.B.TermBank.store c.shorten.new.engine.bank)
     (g.B.TermBank.store c.lengthen.new.engine.bank) c.args.row.now (record c.args.row.now { values = c.lengthen.new.values }) c.args.self.now
-    c.shorten.new.self c.lengthen.new.self c.requires.held c.requires.saved c.shorten.ensures.trees c.in_ok-shorten.ensures.shortens refl refl
-    c.lengthen.ensures.stays.kept c.in_err-lengthen.ensures.refused
+    c.shorten.new.self c.lengthen.new.self c.requires.can.held c.requires.can.saved c.shorten.ensures.trees c.in_ok-shorten.ensures.shortens refl refl
+    c.lengthen.ensures.relists.stays.kept c.in_err-lengthen.ensures.refused
 
 -- the row's values are saved
 saves : (g : given.Over) (c : In_ok-lengthen g) → Saves (g.B.TermBank.store c.args.engine.now.bank) (g.B.TermBank.store c.lengthen.new.engine.bank)
@@ -28,7 +28,7 @@ saves : (g : given.Over) (c : In_ok-lengthen g) → Saves (g.B.TermBank.store c.
 saves g c =
     row-saved (g.B.TermBank.store c.args.engine.now.bank) (g.B.TermBank.store c.shorten.new.engine.bank) (g.B.TermBank.store c.lengthen.new.engine.bank)
     c.args.row.now (record { steps = c.args.row.now.steps; values = c.lengthen.new.values; low = c.lengthen.new.self.count }) c.lengthen.new.self c.args.count
-    c.requires.held c.shorten.ensures.trees refl refl c.lengthen.ensures.stays.kept c.in_ok-lengthen.ensures.lengthens
+    c.requires.can.held c.shorten.ensures.trees refl refl c.lengthen.ensures.relists.stays.kept c.in_ok-lengthen.ensures.lengthens
 
 pub returns-clause-saves : goal.returns-clause-saves
 returns-clause-saves g c = saves g (goal.at.returns-clause-saves g c).In_ok-lengthen

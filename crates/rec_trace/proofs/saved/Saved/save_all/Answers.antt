@@ -6,7 +6,7 @@ use Rattle.rec_trace.proofs.saved.Saved.save_all.Goals as goal
 pub returns-clause-leaves : goal.returns-clause-leaves
 returns-clause-leaves g c =
     row-left (g.B.TermBank.store c.args.engine.now.bank) (g.B.TermBank.store c.save-saved.new.engine.bank) c.args.row.now c.save-saved.new.row
-    c.cut.new.self c.save-saved.new.self c.args.count c.requires.count c.save-saved.ensures.keeps c.cut.ensures.steps c.cut.ensures.values
+    c.cut.new.self c.save-saved.new.self c.args.count c.requires.can.within c.save-saved.ensures.keeps c.cut.ensures.steps c.cut.ensures.values
     c.cut.ensures.low
 
 pub returns-clause-all : goal.returns-clause-all

@@ -26,7 +26,7 @@ left g c z is =
     let y = c.args.engine.now.spec in
     let w = g.B.TermBank.store c.args.engine.now.bank in
     let a = c.args.self.now in
-    let top = is-top y w a c.top-redex.result c.requires.order c.requires.some c.top-redex.ensures in
+    let top = is-top y w a c.top-redex.result c.requires.top.order c.requires.top.some c.top-redex.ensures in
     side-gave y y w (g.B.TermBank.store c.side.new.engine.bank) a c.side.new.self c.args.rule (Left c.args.i) c.top-redex.result (on_top (stack_at w a))
     c.in_ok-side.field-0 z refl c.in_ok-side.ensures.gives top.tree is
 
@@ -47,16 +47,16 @@ right g c z is v adds =
     let b = c.side.new.self in
     let redex = c.index-redex.result.now in
     let u = on_top (stack_at w a) in
-    let under = is-under y w w1 a b v redex c.len.result adds c.requires.some (c.len.ensures ∙ b.row.values.ok.0) c.index-redex.ensures in
+    let under = is-under y w w1 a b v redex c.len.result adds c.requires.top.some (c.len.ensures ∙ b.row.values.ok.0) c.index-redex.ensures in
     side-gave c.side.new.engine.spec y w1 (g.B.TermBank.store c.side-2.new.engine.bank) b c.side-2.new.self c.args.rule (Right c.args.i) redex u
-    c.in_ok-side-2.field-0 z c.side.ensures.same.spec c.in_ok-side-2.ensures.gives (held-as w1 redex u under) is
+    c.in_ok-side-2.field-0 z c.side.ensures.relists.same.spec c.in_ok-side-2.ensures.gives (held-as w1 redex u under) is
 
 two : (g : given.Over) (c : After-len g) (v : Tree)
     → Adds c.args.engine.now.spec (g.B.TermBank.store c.args.engine.now.bank) (g.B.TermBank.store c.side.new.engine.bank) c.args.self.now c.side.new.self v
     → 2 ≤ c.len.result
 two g c v adds =
     let more = more-reach c.args.engine.now.spec (g.B.TermBank.store c.args.engine.now.bank) (g.B.TermBank.store c.side.new.engine.bank) c.args.self.now
-    c.side.new.self v 0 adds c.requires.some in
+    c.side.new.self v 0 adds c.requires.top.some in
     let long = c.len.ensures in
     let counted = c.side.new.self.row.values.ok.0 in
     omega (arith, more, long, counted)
@@ -66,7 +66,7 @@ side-requires-clause-can g c =
     let y = c.args.engine.now.spec in
     let w = g.B.TermBank.store c.args.engine.now.bank in
     let a = c.args.self.now in
-    let top = is-top y w a c.top-redex.result c.requires.order c.requires.some c.top-redex.ensures in
+    let top = is-top y w a c.top-redex.result c.requires.top.order c.requires.top.some c.top-redex.ensures in
     let q = c.requires.can in
     can-take y w c.args.rule (Left c.args.i) c.top-redex.result (on_top (stack_at w a)) q.0 q.1 q.2 q.3 top.held
 
@@ -99,7 +99,7 @@ side-requires-2-clause-order g c =
     let at = goal.at.side-requires-2-clause-order g c in
     let q = c.requires.can in
     let first = left g at.In_ok-side true c.if-not-branch.false q.0 q.1 q.2 in
-    subst (λ z. IsInOrder z (g.B.TermBank.store c.side.new.engine.bank) c.side.new.self) (sym c.side.ensures.same.spec) first.2.order
+    subst (λ z. IsInOrder z (g.B.TermBank.store c.side.new.engine.bank) c.side.new.self) (sym c.side.ensures.relists.same.spec) first.2.order
 
 pub side-requires-2-clause-can : goal.side-requires-2-clause-can
 side-requires-2-clause-can g c =
@@ -112,8 +112,8 @@ side-requires-2-clause-can g c =
     let q = c.requires.can in
     let first = left g at.In_ok-side true c.if-not-branch.false q.0 q.1 q.2 in
     let redex = c.index-redex.result.now in
-    let under = is-under y w w1 a b first.0 redex c.len.result first.2 c.requires.some (c.len.ensures ∙ b.row.values.ok.0) c.index-redex.ensures in
-    subst (λ z. CanTake z w1 c.args.rule (Right c.args.i) redex) (sym c.side.ensures.same.spec)
+    let under = is-under y w w1 a b first.0 redex c.len.result first.2 c.requires.top.some (c.len.ensures ∙ b.row.values.ok.0) c.index-redex.ensures in
+    subst (λ z. CanTake z w1 c.args.rule (Right c.args.i) redex) (sym c.side.ensures.relists.same.spec)
     (can-take y w1 c.args.rule (Right c.args.i) redex (on_top (stack_at w a)) q.0 q.1 q.2 q.3 under)
 
 pub returns-then-not-branch-2-clause-answers : goal.returns-then-not-branch-2-clause-answers
@@ -130,7 +130,7 @@ compare-requires-clause-order g c =
     let first = left g at.In_ok-side true c.if-not-branch.false q.0 q.1 q.2 in
     let second = right g at.In_ok-side-2 true c.if-not-branch-2.false first.0 first.2 q.0 q.1 q.2 in
     subst (λ z. IsInOrder z (g.B.TermBank.store c.side-2.new.engine.bank) c.side-2.new.self)
-    (sym (c.side-2.ensures.same.spec ∙ c.side.ensures.same.spec)) second.2.order
+    (sym (c.side-2.ensures.relists.same.spec ∙ c.side.ensures.relists.same.spec)) second.2.order
 
 pub compare-requires-clause-two : goal.compare-requires-clause-two
 compare-requires-clause-two g c =
@@ -141,7 +141,7 @@ compare-requires-clause-two g c =
     let q = c.requires.can in
     let first = left g at.In_ok-side true c.if-not-branch.false q.0 q.1 q.2 in
     let second = right g at.In_ok-side-2 true c.if-not-branch-2.false first.0 first.2 q.0 q.1 q.2 in
-    let more = more-reach y (g.B.TermBank.store c.args.engine.now.bank) w1 c.args.self.now b first.0 0 first.2 c.requires.some in
+    let more = more-reach y (g.B.TermBank.store c.args.engine.now.bank) w1 c.args.self.now b first.0 0 first.2 c.requires.top.some in
     let most = more-reach y w1 (g.B.TermBank.store c.side-2.new.engine.bank) b c.side-2.new.self second.0 1 second.2 more in
     omega (arith, most)
 
@@ -152,7 +152,7 @@ compare-requires-clause-clear g c =
     let first = left g at.In_ok-side true c.if-not-branch.false q.0 q.1 q.2 in
     let second = right g at.In_ok-side-2 true c.if-not-branch-2.false first.0 first.2 q.0 q.1 q.2 in
     clear-below c.args.engine.now.spec (g.B.TermBank.store c.args.engine.now.bank) (g.B.TermBank.store c.side.new.engine.bank)
-    (g.B.TermBank.store c.side-2.new.engine.bank) c.args.self.now c.side.new.self c.side-2.new.self first.0 second.0 c.requires.order first.2 second.2
+    (g.B.TermBank.store c.side-2.new.engine.bank) c.args.self.now c.side.new.self c.side-2.new.self first.0 second.0 c.requires.top.order first.2 second.2
 
 pub returns-clause-answers : goal.returns-clause-answers
 returns-clause-answers g c = λ r s match.
@@ -162,7 +162,7 @@ returns-clause-answers g c = λ r s match.
     let d = c.side-2.new.self in
     let first = left g at.In_ok-side true c.if-not-branch.false r s match in
     let second = right g at.In_ok-side-2 true c.if-not-branch-2.false first.0 first.2 r s match in
-    let spec = c.side-2.ensures.same.spec ∙ c.side.ensures.same.spec in
+    let spec = c.side-2.ensures.relists.same.spec ∙ c.side.ensures.relists.same.spec in
     let e = c.compare.new.self in
     let order = subst (λ z. IsInOrder z w2 e) spec c.compare.ensures.order in
     let moves = subst (λ z. moves_at z w2 e ≡ moves_at z w2 d) spec c.compare.ensures.moves in

@@ -1,4 +1,4 @@
-use Rattle.std.proofs.Common.{◌≡◌, ◌∷◌, [], ap, arith, get_or, length, refl, subst, sym, ◌∙◌}
+use Rattle.std.proofs.Common.{◌≡◌, ◌∷◌, [], ap, arith, get_or, length, refl, rules, subst, sym, ◌∙◌}
 use Rattle.std.specs.Prelude.{Bool, None, Option, Some, false, slice_get, true, vec_len}
 use Rattle.rec_syntax.specs.Syntax.{Rule}
 use Rattle.rec_sorts.specs.Binding.{Substitution}
@@ -23,7 +23,7 @@ counted g c r is =
     let x = c.index-rules-rule.result in
     let letters = subst (λ z. Pairwise (IsLetterRule z) c.rules.result.now z.rules) c.checked.ensures c.rules.ensures.letters in
     c.len-count.ensures ∙ ap (λ (z : LetterRule). vec_len z.conditions) (sym c.index-rules-rule.is) ∙ x.conditions.ok.0
-    ∙ (rule-read y c.requires.order.good c.rules.result.now letters c.args.rule r x is c.index-rules-rule.is).counted
+    ∙ (rule-read y c.requires.top.order.good c.rules.result.now letters c.args.rule r x is c.index-rules-rule.is).counted
 
 -- one was answered
 said : (g : given.Over) (c : In_ok-condition g) (o : Option Bool) → c.in_ok-condition.field-0 ≡ o → (r : Rule) (s : Substitution)
@@ -58,8 +58,8 @@ bounds-rules-rule g c =
 pub loop-i-init : goal.loop-i-init
 loop-i-init g c = record {
   same = record { spec = refl; options = refl };
-  stays = stays-same (g.B.TermBank.store c.args.engine.now.bank) c.args.self.now.saved.list c.requires.order.saved.kept;
-  state = same-first c.args.engine.now.spec (g.B.TermBank.store c.args.engine.now.bank) c.args.self.now c.requires.order;
+  stays = stays-same (g.B.TermBank.store c.args.engine.now.bank) c.args.self.now.saved.list c.requires.top.order.saved.kept;
+  state = same-first c.args.engine.now.spec (g.B.TermBank.store c.args.engine.now.bank) c.args.self.now c.requires.top.order;
   comes = λ r s match. refl;
 }
 
@@ -73,8 +73,10 @@ condition-requires g c =
     let long = counted g (goal.at.condition-requires g c).After-len-count q.0 q.2.rule in
     let t = c.loop-i-test.true in
     record {
-      order = subst (λ z. IsInOrder z w1 b) (sym i.same.spec) i.state.order;
-      some = same-reach y (g.B.TermBank.store c.args.engine.now.bank) w1 c.args.self.now b 0 i.state c.requires.some;
+      top = record {
+        order = subst (λ z. IsInOrder z w1 b) (sym i.same.spec) i.state.order;
+        some = same-reach y (g.B.TermBank.store c.args.engine.now.bank) w1 c.args.self.now b 0 i.state c.requires.top.some;
+      };
       can = (
         q.0,
         q.1,
@@ -90,17 +92,25 @@ loop-i-preserved g c =
     let at = goal.at.loop-i-preserved g c in
     let now = said g at.In_ok-condition (Some true) (c.in-Some-true.is ∙ ap (λ v. let o : Option Bool = Some v in o) c.in-Some-true.field-0-test) in
     record {
-      same = same_both c.loop-i.invariant.same c.condition.ensures.same;
-      stays = stays-trans c.loop-i.invariant.stays c.condition.ensures.stays;
+      same = same_both c.loop-i.invariant.same c.condition.ensures.relists.same;
+      stays = stays-trans c.loop-i.invariant.stays c.condition.ensures.relists.stays;
       state = (now q.0 q.1 q.2 (counted g at.After-len-count q.0 q.2.rule)).1;
       comes = λ r s match. (now r s match (counted g at.After-len-count r match.rule)).0;
     }
 
-pub returns-in_err-condition-clause-stays : goal.returns-in_err-condition-clause-stays
-returns-in_err-condition-clause-stays g c = stays-trans c.loop-i.invariant.stays c.condition.ensures.stays
+pub returns-in_err-condition-clause-relists : goal.returns-in_err-condition-clause-relists
+returns-in_err-condition-clause-relists g c = record {
+  same = search rules;
+  stays = stays-trans c.loop-i.invariant.stays c.condition.ensures.relists.stays;
+  room = search rules;
+}
 
-pub returns-in-Some-false-clause-stays : goal.returns-in-Some-false-clause-stays
-returns-in-Some-false-clause-stays g c = stays-trans c.loop-i.invariant.stays c.condition.ensures.stays
+pub returns-in-Some-false-clause-relists : goal.returns-in-Some-false-clause-relists
+returns-in-Some-false-clause-relists g c = record {
+  same = search rules;
+  stays = stays-trans c.loop-i.invariant.stays c.condition.ensures.relists.stays;
+  room = search rules;
+}
 
 pub returns-in-Some-false-clause-answers : goal.returns-in-Some-false-clause-answers
 returns-in-Some-false-clause-answers g c = λ r s match.
@@ -108,8 +118,12 @@ returns-in-Some-false-clause-answers g c = λ r s match.
     said g at.In_ok-condition (Some false) (c.in-Some-false.is ∙ ap (λ v. let o : Option Bool = Some v in o) c.in-Some-false.field-0-test)
     r s match (counted g at.After-len-count r match.rule)
 
-pub returns-in-None-clause-stays : goal.returns-in-None-clause-stays
-returns-in-None-clause-stays g c = stays-trans c.loop-i.invariant.stays c.condition.ensures.stays
+pub returns-in-None-clause-relists : goal.returns-in-None-clause-relists
+returns-in-None-clause-relists g c = record {
+  same = search rules;
+  stays = stays-trans c.loop-i.invariant.stays c.condition.ensures.relists.stays;
+  room = search rules;
+}
 
 pub returns-in-None-clause-answers : goal.returns-in-None-clause-answers
 returns-in-None-clause-answers g c = λ r s match.

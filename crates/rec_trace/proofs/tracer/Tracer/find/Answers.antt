@@ -1,4 +1,4 @@
-use Rattle.std.proofs.Common.{◌≡◌, ◌-◌, ◌<◌, ap, arith, drop, length, refl, subst, sym, ◌∙◌}
+use Rattle.std.proofs.Common.{◌≡◌, ◌-◌, ◌<◌, ap, arith, drop, length, refl, rules, subst, sym, ◌∙◌}
 use Rattle.std.specs.Prelude.{Bool, None, Option, Some, false, true}
 use Rattle.rec_syntax.specs.Syntax.{Rule, Spec}
 use Rattle.rec_sorts.specs.Binding.{Substitution}
@@ -61,19 +61,22 @@ said g c o is n =
 pub rules-init : goal.rules-init
 rules-init g c = record {
   same = record { spec = refl; options = refl };
-  stays = stays-same (g.B.TermBank.store c.args.engine.now.bank) c.args.self.now.saved.list c.requires.order.saved.kept;
-  state = same-first c.args.engine.now.spec (g.B.TermBank.store c.args.engine.now.bank) c.args.self.now c.requires.order;
+  stays = stays-same (g.B.TermBank.store c.args.engine.now.bank) c.args.self.now.saved.list c.requires.top.order.saved.kept;
+  state = same-first c.args.engine.now.spec (g.B.TermBank.store c.args.engine.now.bank) c.args.self.now c.requires.top.order;
   comes = refl;
 }
 
-pub next_rule-requires-clause-order : goal.next_rule-requires-clause-order
-next_rule-requires-clause-order g c = subst (λ z. IsInOrder z (g.B.TermBank.store c.rules.engine.bank) c.rules.self) (sym c.rules.invariant.same.spec)
-    c.rules.invariant.state.order
-
-pub next_rule-requires-clause-some : goal.next_rule-requires-clause-some
-next_rule-requires-clause-some g c =
-    same-reach c.args.engine.now.spec (g.B.TermBank.store c.args.engine.now.bank) (g.B.TermBank.store c.rules.engine.bank) c.args.self.now c.rules.self 0
-    c.rules.invariant.state c.requires.some
+pub next_rule-requires : goal.next_rule-requires
+next_rule-requires g c =
+    let y = c.args.engine.now.spec in
+    let w1 = g.B.TermBank.store c.rules.engine.bank in
+    let i = c.rules.invariant in
+    record {
+      top = record {
+        order = subst (λ z. IsInOrder z w1 c.rules.self) (sym i.same.spec) i.state.order;
+        some = same-reach y (g.B.TermBank.store c.args.engine.now.bank) w1 c.args.self.now c.rules.self 0 i.state c.requires.top.some;
+      };
+    }
 
 pub returns-then-self-eq0-clause-found : goal.returns-then-self-eq0-clause-found
 returns-then-self-eq0-clause-found g c =
@@ -82,23 +85,20 @@ returns-then-self-eq0-clause-found g c =
     nothing-left y u c.rules.from c.in-Some.rule c.rules.self.left (first_rule y (Eval y) y.rules c.args.self.now.left u)
     (next g (goal.at.returns-then-self-eq0-clause-found g c).In-Some) (sym c.next_rule.ensures.left ∙ c.if-self-eq0.true) c.rules.invariant.comes
 
-pub try_rule-requires-clause-order : goal.try_rule-requires-clause-order
-try_rule-requires-clause-order g c =
-    let i = c.rules.invariant in
-    let m = c.next_rule.new.self in
-    let w1 = g.B.TermBank.store c.rules.engine.bank in
-    subst (λ z. IsInOrder z w1 (record m { left = m.left - 1 })) (sym i.same.spec)
-    (order-row c.args.engine.now.spec w1 c.rules.self (record m { left = m.left - 1 })
-    i.state.order c.next_rule.ensures.row c.next_rule.ensures.saved)
-
-pub try_rule-requires-clause-some : goal.try_rule-requires-clause-some
-try_rule-requires-clause-some g c =
+pub try_rule-requires-clause-top : goal.try_rule-requires-clause-top
+try_rule-requires-clause-top g c =
     let y = c.args.engine.now.spec in
     let w = g.B.TermBank.store c.args.engine.now.bank in
     let w1 = g.B.TermBank.store c.rules.engine.bank in
     let m = c.next_rule.new.self in
-    same-reach y w w1 c.args.self.now m 0
-    (same-row y w w1 c.args.self.now c.rules.self m c.rules.invariant.state c.next_rule.ensures.row c.next_rule.ensures.saved) c.requires.some
+    let less : Tracer = record m { left = m.left - 1 } in
+    let i = c.rules.invariant in
+    record {
+      order = subst (λ z. IsInOrder z w1 less) (sym i.same.spec)
+          (order-row y w1 c.rules.self less i.state.order c.next_rule.ensures.row c.next_rule.ensures.saved);
+      some = same-reach y w w1 c.args.self.now m 0
+          (same-row y w w1 c.args.self.now c.rules.self m i.state c.next_rule.ensures.row c.next_rule.ensures.saved) c.requires.top.some;
+    }
 
 pub try_rule-requires-clause-can : goal.try_rule-requires-clause-can
 try_rule-requires-clause-can g c =
@@ -113,13 +113,19 @@ try_rule-requires-clause-can g c =
           (subst (λ st. IsMatch c.args.engine.now.spec c.in-Some.rule (on_top st) n.rule n.values) (sym stack) n.match),
     )
 
-pub returns-in_err-try_rule-clause-stays : goal.returns-in_err-try_rule-clause-stays
-returns-in_err-try_rule-clause-stays g c =
-    stays-trans c.rules.invariant.stays (stays-from c.next_rule.ensures.saved c.try_rule.ensures.stays)
+pub returns-in_err-try_rule-clause-relists : goal.returns-in_err-try_rule-clause-relists
+returns-in_err-try_rule-clause-relists g c = record {
+  same = search rules;
+  stays = stays-trans c.rules.invariant.stays (stays-from c.next_rule.ensures.saved c.try_rule.ensures.relists.stays);
+  room = search rules;
+}
 
-pub returns-in-Some-true-clause-stays : goal.returns-in-Some-true-clause-stays
-returns-in-Some-true-clause-stays g c =
-    stays-trans c.rules.invariant.stays (stays-from c.next_rule.ensures.saved c.try_rule.ensures.stays)
+pub returns-in-Some-true-clause-relists : goal.returns-in-Some-true-clause-relists
+returns-in-Some-true-clause-relists g c = record {
+  same = search rules;
+  stays = stays-trans c.rules.invariant.stays (stays-from c.next_rule.ensures.saved c.try_rule.ensures.relists.stays);
+  room = search rules;
+}
 
 pub returns-in-Some-true-clause-found : goal.returns-in-Some-true-clause-found
 returns-in-Some-true-clause-found g c =
@@ -128,7 +134,7 @@ returns-in-Some-true-clause-found g c =
 
 pub after-from-requires : goal.after-from-requires
 after-from-requires g c =
-    subst (λ (z : Spec). c.in-Some.rule < length z.rules) (sym (c.try_rule.ensures.same.spec ∙ c.rules.invariant.same.spec))
+    subst (λ (z : Spec). c.in-Some.rule < length z.rules) (sym (c.try_rule.ensures.relists.same.spec ∙ c.rules.invariant.same.spec))
     (next g (goal.at.after-from-requires g c).In-Some).within
 
 pub rules-preserved : goal.rules-preserved
@@ -138,8 +144,8 @@ rules-preserved g c =
     let said = said g at.In_ok-try_rule (Some false) (c.in-Some-false.is ∙ ap (λ v. let o : Option Bool = Some v in o) c.in-Some-false.field-0-test)
     (next g at.In-Some) in
     record {
-      same = same_both c.rules.invariant.same c.try_rule.ensures.same;
-      stays = stays-trans c.rules.invariant.stays (stays-from c.next_rule.ensures.saved c.try_rule.ensures.stays);
+      same = same_both c.rules.invariant.same c.try_rule.ensures.relists.same;
+      stays = stays-trans c.rules.invariant.stays (stays-from c.next_rule.ensures.saved c.try_rule.ensures.relists.stays);
       state = said.1;
       comes =
           ap (λ k. first_rule y (Eval y) (drop k y.rules) c.try_rule.new.self.left
@@ -157,9 +163,12 @@ rules-smaller g c =
     let less : length y.rules - c.after-from.result < length y.rules - c.rules.from = omega (arith, after, later, within) in
     less
 
-pub returns-in-None-clause-stays : goal.returns-in-None-clause-stays
-returns-in-None-clause-stays g c =
-    stays-trans c.rules.invariant.stays (stays-from c.next_rule.ensures.saved c.try_rule.ensures.stays)
+pub returns-in-None-clause-relists : goal.returns-in-None-clause-relists
+returns-in-None-clause-relists g c = record {
+  same = search rules;
+  stays = stays-trans c.rules.invariant.stays (stays-from c.next_rule.ensures.saved c.try_rule.ensures.relists.stays);
+  room = search rules;
+}
 
 pub returns-in-None-clause-found : goal.returns-in-None-clause-found
 returns-in-None-clause-found g c =

@@ -1,11 +1,9 @@
 use Rattle.std.proofs.Common.{◌≡◌, ◌<◌, ◌++◌, ◌∷◌, [], ap, arith, length, refl, reverse, subst, sym, vec_len, ◌∙◌}
 use Rattle.std.specs.Prelude.{None, Option, Some, Vec}
 use Rattle.std.specs.declared.alloc.Global.{Global}
-use Rattle.rec_syntax.specs.Syntax.{Spec}
 use Rattle.rec_sorts.specs.Numbering.{name_of}
-use Rattle.rec_sorts.specs.SpecRules.{fault}
 use Rattle.rec_sorts.specs.declared.letters.Meaning.TheVariants.{Symbol}
-use Rattle.rec_trace.specs.Inner.Turns.{ComesTo}
+use Rattle.rec_trace.specs.Inner.Turns.{CanCall, ComesTo}
 use Rattle.rec_trace.specs.declared.row.Step.{Step}
 use Rattle.rec_trace.specs.declared.row.Step.TheVariants as step
 use Rattle.rec_trace.specs.declared.tracer.Event.{Event}
@@ -18,7 +16,7 @@ use Rattle.rec_trace.proofs.StepLemmas.{IsCalling, event-since, is-calling, no-i
 use Rattle.rec_trace.proofs.TopLemmas.{is-top}
 use Rattle.rec_trace.proofs.TurnLemmas.{given, given-last}
 use Rattle.rec_trace.proofs.tracer.Tracer.next_event.Given as given
-use Rattle.rec_trace.proofs.tracer.Tracer.next_event.Goals.{In_ok-event-in-Invoke}
+use Rattle.rec_trace.proofs.tracer.Tracer.next_event.Goals.{In-Invoke, In_ok-event-in-Invoke}
 use Rattle.rec_trace.proofs.tracer.Tracer.next_event.Goals as goal
 
 -- a tracer with these steps
@@ -26,7 +24,7 @@ abbrev over : Tracer → Vec Step Global → Tracer
 over a steps = record a { row = record a.row { steps = steps } }
 
 -- a symbol is called
-calling : (g : given.Over) (c : In_ok-event-in-Invoke g)
+calling : (g : given.Over) (c : In-Invoke g)
     → let a = c.turns.self in
     IsCalling c.args.engine.now.spec (g.B.TermBank.store c.turns.engine.bank) a (over a c.pop.new.self)
     c.in-Invoke.symbol c.in-Invoke.count
@@ -96,9 +94,16 @@ turns-preserved-in-Continue-branch-2 g c =
           (record { low = lowers.low; within = lowers.within; values = lowers.values }) refl refl));
     }
 
-pub call-requires-clause-good : goal.call-requires-clause-good
-call-requires-clause-good g c =
-    subst (λ (z : Spec). fault z ≡ None) (sym c.turns.invariant.same.spec) c.turns.invariant.trace.stands.order.good
+pub call-requires : goal.call-requires
+call-requires g c =
+    let w1 = g.B.TermBank.store c.turns.engine.bank in
+    let i = c.turns.invariant in
+    let b = over c.turns.self c.pop.new.self in
+    let h = calling g (goal.at.call-requires g c).In-Invoke in
+    record {
+      can = subst (λ z. CanCall z w1 b c.in-Invoke.symbol c.in-Invoke.count) (sym i.same.spec)
+          (record { good = i.trace.stands.order.good; row = h.row; saved = h.saved });
+    }
 
 pub turns-preserved : goal.turns-preserved
 turns-preserved g c =
@@ -111,11 +116,11 @@ turns-preserved g c =
     let i = c.turns.invariant in
     let at = goal.at.turns-preserved g c in
     record {
-      same = same_both i.same c.call.ensures.same;
-      stays = stays-trans i.stays c.call.ensures.stays;
+      same = same_both i.same c.call.ensures.relists.same;
+      stays = stays-trans i.stays c.call.ensures.relists.stays;
       trace = trace-more y (g.B.TermBank.store c.args.engine.now.bank) w1 w2 c.args.self.now a d i.trace
           (step-ends y w1 w2 a b d c.in-Invoke.symbol c.in-Invoke.count i.trace.stands refl
-          (calling g at.In_ok-event-in-Invoke) (comes g at.In_ok-event-in-Invoke None c.in_default-2.is));
+          (calling g at.In-Invoke) (comes g at.In_ok-event-in-Invoke None c.in_default-2.is));
     }
 
 pub turns-smaller : goal.turns-smaller
@@ -144,7 +149,7 @@ returns-in-Some-2-clause-stands g c =
     let d = c.call.new.self in
     let i = c.turns.invariant in
     let at = goal.at.returns-in-Some-2-clause-stands g c in
-    (step-comes y w1 w2 a b d c.in-Invoke.symbol c.in-Invoke.count i.trace.stands refl (calling g at.In_ok-event-in-Invoke)
+    (step-comes y w1 w2 a b d c.in-Invoke.symbol c.in-Invoke.count i.trace.stands refl (calling g at.In-Invoke)
     c.in-Some-2.event (comes g at.In_ok-event-in-Invoke (Some c.in-Some-2.event) c.in-Some-2.is)).1
 
 pub returns-in-Some-2-clause-event : goal.returns-in-Some-2-clause-event
@@ -158,7 +163,7 @@ returns-in-Some-2-clause-event g c =
     let i = c.turns.invariant in
     let at = goal.at.returns-in-Some-2-clause-event g c in
     event-since y (g.B.TermBank.store c.args.engine.now.bank) w1 w2 c.args.self.now a d c.in-Some-2.event i.trace
-    (step-comes y w1 w2 a b d c.in-Invoke.symbol c.in-Invoke.count i.trace.stands refl (calling g at.In_ok-event-in-Invoke)
+    (step-comes y w1 w2 a b d c.in-Invoke.symbol c.in-Invoke.count i.trace.stands refl (calling g at.In-Invoke)
     c.in-Some-2.event (comes g at.In_ok-event-in-Invoke (Some c.in-Some-2.event) c.in-Some-2.is)).0
 
 pub returns-clause-event : goal.returns-clause-event

@@ -9,7 +9,7 @@ returns-in-Ok-clause-bound g c =
     let y = c.args.engine.now.spec in
     let w = g.B.TermBank.store c.args.engine.now.bank in
     let t = c.args.self.now in
-    let top = is-top y w t c.top-redex.result c.requires.order c.requires.some c.top-redex.ensures in
+    let top = is-top y w t c.top-redex.result c.requires.top.order c.requires.top.some c.top-redex.ensures in
     let answers = subst (λ b. Answers (g.B.TermBank.store b) c.matcher.result.now c.top-redex.result c.args.from c.next_on-found.new.bind.items c.in-Ok.rule)
     c.bank.ensures c.in-Ok.ensures.answers in
     bound-of-answer y w t c.top-redex.result c.args.from c.next_on-found.new.bind.items c.in-Ok.rule top (answers y c.matcher.ensures)
@@ -19,7 +19,7 @@ returns-in-Ok-clause-found g c =
     let y = c.args.engine.now.spec in
     let w = g.B.TermBank.store c.args.engine.now.bank in
     let t = c.args.self.now in
-    let top = is-top y w t c.top-redex.result c.requires.order c.requires.some c.top-redex.ensures in
+    let top = is-top y w t c.top-redex.result c.requires.top.order c.requires.top.some c.top-redex.ensures in
     let answers = subst (λ b. Answers (g.B.TermBank.store b) c.matcher.result.now c.top-redex.result c.args.from c.next_on-found.new.bind.items c.in-Ok.rule)
     c.bank.ensures c.in-Ok.ensures.answers in
     number-of-answer y w t c.top-redex.result c.args.from c.next_on-found.new.bind.items c.in-Ok.rule top (answers y c.matcher.ensures)

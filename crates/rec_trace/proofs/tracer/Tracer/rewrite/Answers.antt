@@ -20,7 +20,7 @@ write_contractum-requires g c =
         u,
         c.requires.redex.1,
         same ∙ c.requires.redex.2,
-        subst (λ y. Rewrites y c.args.rule u c.requires.redex.1) (sym c.save_all.ensures.same.spec) c.requires.redex.3,
+        subst (λ y. Rewrites y c.args.rule u c.requires.redex.1) (sym c.save_all.ensures.relists.same.spec) c.requires.redex.3,
       );
     }
 
@@ -58,7 +58,7 @@ written g c =
     (under-redex w t.row c.give.new.self c.args.redex u held c.requires.redex.2 values c.len-count.result (c.len-count.ensures ∙ t.row.values.ok.0))
     c.write_contractum.ensures.row c.write_contractum.ensures.saved c.write_contractum.ensures.left
     (g.B.TermBank.store c.write_contractum.new.engine.bank) []
-    (above-held w t.row c.give.new.self c.args.redex u held c.requires.redex.2 values) c.in_ok-save_all.ensures.all c.write_contractum.ensures.keeps
+    (above-held w t.row c.give.new.self c.args.redex u held c.requires.redex.2 values) c.in_ok-save_all.ensures.all c.write_contractum.ensures.builds.keeps
 
 pub returns-in_err-save_all-clause-stands : goal.returns-in_err-save_all-clause-stands
 returns-in_err-save_all-clause-stands g c = (left g (goal.at.returns-in_err-save_all-clause-stands g c).After-save_all).stands
@@ -92,16 +92,16 @@ returns-in_err-contractum-clause-spares g c =
     subst (λ s. Stays (g.B.TermBank.store c.args.engine.now.bank) (g.B.TermBank.store c.write_contractum.new.engine.bank) c.args.self.now.saved.list s.list)
     (sym c.write_contractum.ensures.saved)
     (stays-called (g.B.TermBank.store c.args.engine.now.bank) (g.B.TermBank.store c.save_all.new.engine.bank)
-    (g.B.TermBank.store c.write_contractum.new.engine.bank) c.args.self.now.saved.list c.save_all.new.self.list [] c.save_all.ensures.stays
-    c.write_contractum.ensures.keeps)
+    (g.B.TermBank.store c.write_contractum.new.engine.bank) c.args.self.now.saved.list c.save_all.new.self.list [] c.save_all.ensures.relists.stays
+    c.write_contractum.ensures.builds.keeps)
 
 pub returns-clause-spares : goal.returns-clause-spares
 returns-clause-spares g c =
     subst (λ s. Stays (g.B.TermBank.store c.args.engine.now.bank) (g.B.TermBank.store c.write_contractum.new.engine.bank) c.args.self.now.saved.list s.list)
     (sym c.write_contractum.ensures.saved)
     (stays-called (g.B.TermBank.store c.args.engine.now.bank) (g.B.TermBank.store c.save_all.new.engine.bank)
-    (g.B.TermBank.store c.write_contractum.new.engine.bank) c.args.self.now.saved.list c.save_all.new.self.list [] c.save_all.ensures.stays
-    c.write_contractum.ensures.keeps)
+    (g.B.TermBank.store c.write_contractum.new.engine.bank) c.args.self.now.saved.list c.save_all.new.self.list [] c.save_all.ensures.relists.stays
+    c.write_contractum.ensures.builds.keeps)
 
 pub returns-clause-redex : goal.returns-clause-redex
 returns-clause-redex g c =
@@ -113,7 +113,7 @@ returns-clause-redex g c =
     above-redex w t.row c.give.new.self c.args.redex u c.requires.stands.order.row.held c.requires.redex.2 c.in_ok-give.ensures.values w2
     (called-parts w w1 c.give.new.self c.save_all.new.row c.save_all.new.self c.len-count.result c.save_all.ensures.leaves w2 []
     (above-held w t.row c.give.new.self c.args.redex u c.requires.stands.order.row.held c.requires.redex.2 c.in_ok-give.ensures.values)
-    c.in_ok-save_all.ensures.all c.write_contractum.ensures.keeps)
+    c.in_ok-save_all.ensures.all c.write_contractum.ensures.builds.keeps)
 
 pub returns-clause-contractum : goal.returns-clause-contractum
 returns-clause-contractum g c = λ u v redex_at rewrites.
@@ -122,4 +122,4 @@ returns-clause-contractum g c = λ u v redex_at rewrites.
     let t = c.args.self.now in
     let same = above-redex w t.row c.give.new.self c.args.redex u c.requires.stands.order.row.held redex_at c.in_ok-give.ensures.values w1
     c.save_all.ensures.leaves.parts in
-    c.in_ok-contractum.ensures.contractum u v (same ∙ redex_at) (subst (λ y. Rewrites y c.args.rule u v) (sym c.save_all.ensures.same.spec) rewrites)
+    c.in_ok-contractum.ensures.contractum u v (same ∙ redex_at) (subst (λ y. Rewrites y c.args.rule u v) (sym c.save_all.ensures.relists.same.spec) rewrites)

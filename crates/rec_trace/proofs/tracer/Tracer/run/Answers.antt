@@ -1,4 +1,4 @@
-use Rattle.std.proofs.Common.{◌≡◌, ◌-◌, ap, arith, length, subst, sym, take, ◌∙◌}
+use Rattle.std.proofs.Common.{◌≡◌, ◌-◌, ap, arith, length, rules, subst, sym, take, ◌∙◌}
 use Rattle.std.proofs.Math.Seq.{take-length}
 use Rattle.std.proofs.lemmas.List.{length-take-le, take-take}
 use Rattle.rec_sorts.specs.Evaluation.{Call}
@@ -23,11 +23,19 @@ turn-requires-clause-fits g c =
     (running-can (Call y) y (g.B.TermBank.store c.args.engine.now.bank) w c.args.self.now c.steps.self c.args.floor i.running
     (omega (arith, t, l)) c.steps.self.row.steps.ok.0)
 
-pub returns-in_err-turn-clause-stays : goal.returns-in_err-turn-clause-stays
-returns-in_err-turn-clause-stays g c = stays-trans c.steps.invariant.stays c.turn.ensures.stays
+pub returns-in_err-turn-clause-relists : goal.returns-in_err-turn-clause-relists
+returns-in_err-turn-clause-relists g c = record {
+  same = search rules;
+  stays = stays-trans c.steps.invariant.stays c.turn.ensures.relists.stays;
+  room = search rules;
+}
 
-pub returns-then-not-branch-clause-stays : goal.returns-then-not-branch-clause-stays
-returns-then-not-branch-clause-stays g c = stays-trans c.steps.invariant.stays c.turn.ensures.stays
+pub returns-then-not-branch-clause-relists : goal.returns-then-not-branch-clause-relists
+returns-then-not-branch-clause-relists g c = record {
+  same = search rules;
+  stays = stays-trans c.steps.invariant.stays c.turn.ensures.relists.stays;
+  room = search rules;
+}
 
 pub returns-then-not-branch-clause-gives : goal.returns-then-not-branch-clause-gives
 returns-then-not-branch-clause-gives g c =
@@ -59,8 +67,8 @@ steps-preserved g c =
     let yes = subst (Turns (Call y) y w w' c.steps.self c.turn.new.self) c.if-not-branch.false turns in
     record {
       within = omega (arith, t, l, shorter, long, before, after);
-      same = same_both i.same c.turn.ensures.same;
-      stays = stays-trans i.stays c.turn.ensures.stays;
+      same = same_both i.same c.turn.ensures.relists.same;
+      stays = stays-trans i.stays c.turn.ensures.relists.stays;
       running = running-next (Call y) y (g.B.TermBank.store c.args.engine.now.bank) w c.args.self.now c.steps.self c.args.floor
           i.running (omega (arith, t, l)) w' c.turn.new.self (omega (arith, t, l, shorter, long, before, after)) yes.0 yes.1;
       below = ap (take c.args.floor) steps

@@ -51,13 +51,14 @@ entered g c put r s match bound =
     has-entered y w c.args.self.now b (record b { row = c.spread.new.self }) c.args.redex (moves s (side_of r c.args.side)) put h c.in_ok-spread.ensures.low
     refl was.left (ap (λ (z : Row). z.steps) was.row ∙ c.give.ensures.steps) c.in_ok-spread.ensures.steps
 
-pub next_rule-requires-clause-order : goal.next_rule-requires-clause-order
-next_rule-requires-clause-order g c =
+pub next_rule-requires : goal.next_rule-requires
+next_rule-requires g c =
     let y = c.args.engine.now.spec in
     let w = g.B.TermBank.store c.args.engine.now.bank in
     let a = c.args.self.now in
-    (has-put y w a (record a { row = c.give.new.self }) c.args.redex c.requires.order c.requires.can.4 c.give.ensures.steps c.in_ok-give.ensures.values
-    c.give.ensures.low refl).order
+    let h = has-put y w a (record a { row = c.give.new.self }) c.args.redex c.requires.order c.requires.can.4 c.give.ensures.steps
+    c.in_ok-give.ensures.values c.give.ensures.low refl in
+    record { top = record { order = h.order; some = h.reach } }
 
 pub spread-requires-clause-row : goal.spread-requires-clause-row
 spread-requires-clause-row g c =

@@ -30,12 +30,12 @@ returns-then-len-eq0-clause-answers g c = λ r s match.
     let letters = subst (λ z. Pairwise (IsLetterRule z) c.rules.result.now z.rules) c.checked.ensures c.rules.ensures.letters in
     let counted : c.len.result ≡ length r.conditions =
     c.len.ensures ∙ ap (λ (z : LetterRule). vec_len z.conditions) (sym c.index-rules-rule.is) ∙ x.conditions.ok.0
-    ∙ (rule-read y c.requires.order.good c.rules.result.now letters c.args.rule r x match.rule c.index-rules-rule.is).counted in
+    ∙ (rule-read y c.requires.top.order.good c.rules.result.now letters c.args.rule r x match.rule c.index-rules-rule.is).counted in
     let none = c.if-len-eq0.true in
-    all-asked y w w a a s r.conditions 0 (same-first y w a c.requires.order) refl (omega (arith, counted, none))
+    all-asked y w w a a s r.conditions 0 (same-first y w a c.requires.top.order) refl (omega (arith, counted, none))
 
-pub next_rule-requires-clause-order : goal.next_rule-requires-clause-order
-next_rule-requires-clause-order g c =
+pub next_rule-requires : goal.next_rule-requires
+next_rule-requires g c =
     let y = c.args.engine.now.spec in
     let w = g.B.TermBank.store c.args.engine.now.bank in
     let w1 = g.B.TermBank.store c.conditions.new.engine.bank in
@@ -44,19 +44,12 @@ next_rule-requires-clause-order g c =
     let q = c.requires.can in
     let answer = subst (AreAnswered y w w1 a d (Holds y a.left q.1 q.0.conditions))
     (c.in-Some-true.is ∙ ap (λ v. let o : Option Bool = Some v in o) c.in-Some-true.field-0-test) (c.in_ok-conditions.ensures.answers q.0 q.1 q.2) in
-    subst (λ z. IsInOrder z w1 d) (sym c.conditions.ensures.same.spec) answer.1.order
-
-pub next_rule-requires-clause-some : goal.next_rule-requires-clause-some
-next_rule-requires-clause-some g c =
-    let y = c.args.engine.now.spec in
-    let w = g.B.TermBank.store c.args.engine.now.bank in
-    let w1 = g.B.TermBank.store c.conditions.new.engine.bank in
-    let a = c.args.self.now in
-    let d = c.conditions.new.self in
-    let q = c.requires.can in
-    let answer = subst (AreAnswered y w w1 a d (Holds y a.left q.1 q.0.conditions))
-    (c.in-Some-true.is ∙ ap (λ v. let o : Option Bool = Some v in o) c.in-Some-true.field-0-test) (c.in_ok-conditions.ensures.answers q.0 q.1 q.2) in
-    same-reach y w w1 a d 0 answer.1 c.requires.some
+    record {
+      top = record {
+        order = subst (λ z. IsInOrder z w1 d) (sym c.conditions.ensures.relists.same.spec) answer.1.order;
+        some = same-reach y w w1 a d 0 answer.1 c.requires.top.some;
+      };
+    }
 
 pub returns-in_ok-_same-in-Some-true-clause-answers : goal.returns-in_ok-_same-in-Some-true-clause-answers
 returns-in_ok-_same-in-Some-true-clause-answers g c = λ r s match.
@@ -80,10 +73,10 @@ returns-in_ok-_same-in-Some-true-clause-bound g c = λ e.
     let answer = subst (AreAnswered y w w1 a d (Holds y a.left q.1 q.0.conditions))
     (c.in-Some-true.is ∙ ap (λ v. let o : Option Bool = Some v in o) c.in-Some-true.field-0-test) (c.in_ok-conditions.ensures.answers q.0 q.1 q.2) in
     let match = subst (λ st. IsMatch y c.args.rule (on_top st) q.0 q.1) (sym answer.1.stack) q.2 in
-    let again = subst (λ z. number_of (next_match z c.args.rule (on_top (stack_at w1 d))) ≡ c.in_ok-_same-in-Some-true._same) c.conditions.ensures.same.spec
-    c.in_ok-_same-in-Some-true.ensures.found in
+    let again = subst (λ z. number_of (next_match z c.args.rule (on_top (stack_at w1 d))) ≡ c.in_ok-_same-in-Some-true._same)
+    c.conditions.ensures.relists.same.spec c.in_ok-_same-in-Some-true.ensures.found in
     let itself = found-itself y c.args.rule (on_top (stack_at w1 d)) q.0 q.1 c.in_ok-_same-in-Some-true._same match again in
-    subst (λ z. IsBound z w1 c.next_rule.new.self c.args.rule c.next_rule.new.self.bind.items) c.conditions.ensures.same.spec
+    subst (λ z. IsBound z w1 c.next_rule.new.self c.args.rule c.next_rule.new.self.bind.items) c.conditions.ensures.relists.same.spec
     (c.in_ok-_same-in-Some-true.ensures.bound c.args.rule itself)
 
 pub returns-in-Some-false-clause-answers : goal.returns-in-Some-false-clause-answers

@@ -13,7 +13,7 @@ wrote g c =
     let w = g.B.TermBank.store c.args.engine.now.bank in
     let w1 = g.B.TermBank.store c.save_all.new.engine.bank in
     let t = c.args.self.now in
-    subst (λ z. IsWritten z w1 c.in_ok-copy.copy (whole_of y w t)) (sym c.save_all.ensures.same.spec)
+    subst (λ z. IsWritten z w1 c.in_ok-copy.copy (whole_of y w t)) (sym c.save_all.ensures.relists.same.spec)
     (copy-written y w w1 t c.save_all.new.row c.in_ok-copy.copy c.save_all.new.self c.len-count.result c.requires
     (c.len-count.ensures ∙ t.row.values.ok.0) c.save_all.ensures.leaves c.in_ok-copy.ensures.steps c.in_ok-copy.ensures.values)
 
@@ -26,7 +26,7 @@ write-requires-clause-fits g c = (wrote g (goal.at.write-requires-clause-fits g 
 pub returns-clause-spares : goal.returns-clause-spares
 returns-clause-spares g c =
     stays-called (g.B.TermBank.store c.args.engine.now.bank) (g.B.TermBank.store c.save_all.new.engine.bank) (g.B.TermBank.store c.write.new.engine.bank)
-    c.args.self.now.saved.list c.save_all.new.self.list [] c.save_all.ensures.stays c.write.ensures.keeps
+    c.args.self.now.saved.list c.save_all.new.self.list [] c.save_all.ensures.relists.stays c.write.ensures.builds.keeps
 
 -- the state stays where values were saved
 left : (g : given.Over) (c : After-save_all g)
@@ -47,7 +47,7 @@ written g c =
     still-called (g.B.TermBank.store c.args.engine.now.bank) (g.B.TermBank.store c.save_all.new.engine.bank) t.row c.save_all.new.row c.save_all.new.self
     c.len-count.result c.save_all.ensures.leaves c.args.engine.now.spec t (record t { row = c.save_all.new.row; saved = c.save_all.new.self }) c.requires
     refl (all-left t c.len-count.result (c.len-count.ensures ∙ t.row.values.ok.0)) refl refl refl (g.B.TermBank.store c.write.new.engine.bank) []
-    c.requires.order.row.held c.in_ok-save_all.ensures.all c.write.ensures.keeps
+    c.requires.order.row.held c.in_ok-save_all.ensures.all c.write.ensures.builds.keeps
 
 pub returns-in_err-save_all-clause-stands : goal.returns-in_err-save_all-clause-stands
 returns-in_err-save_all-clause-stands g c = (left g (goal.at.returns-in_err-save_all-clause-stands g c).After-save_all).stands

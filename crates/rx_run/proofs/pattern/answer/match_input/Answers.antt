@@ -3,7 +3,9 @@ use Rattle.std.proofs.lemmas.Result.{IfErr-weaker}
 use Rattle.rx_term.specs.Tree.{Tree}
 use Rattle.rx_term.specs.declared.Term.{Term}
 use Rattle.rx_pattern.specs.Matching.{matching}
-use Rattle.rx_run.specs.TermRuns.{IsGiven, due_of}
+use Rattle.rx_run.specs.TermRuns.{due_of}
+use Rattle.rx_run.specs.Inner.TermReadings.{IsGivenIn}
+use Rattle.rx_run.specs.declared.term.reading.InputForm.TheVariants as form
 use Rattle.rx_run.specs.Run.{RanOut}
 use Rattle.rx_run.specs.Streams.{is_read}
 use Rattle.rx_run.specs.PatternRuns.{match_lines}
@@ -21,14 +23,14 @@ pub returns-in-Refused-clause-due : goal.returns-in-Refused-clause-due
 returns-in-Refused-clause-due g c =
     let w = g.B.TermBank.store c.read_term.new.bank in
     let lines = λ (t : Tree). match_lines (matching c.args.pattern.now t) in
-    let v = subst (λ (r : Reading Term). IsGiven (g.R.Read.remaining c.args.input.now.reader.now) w r) c.in-Refused.is c.in_ok-refusal.ensures.read in
+    let v = subst (λ (r : Reading Term). IsGivenIn form.Term (g.R.Read.remaining c.args.input.now.reader.now) w r) c.in-Refused.is c.in_ok-refusal.ensures.read in
     due_read _ (refusal_due c.in-Refused.refusal) (due_of lines) v.0 v.2 (refused_due lines c.in-Refused.refusal v.0 v.1)
 
 pub returns-in-Good-clause-due : goal.returns-in-Good-clause-due
 returns-in-Good-clause-due g c =
     let w = g.B.TermBank.store c.read_term.new.bank in
     let lines = λ (t : Tree). match_lines (matching c.args.pattern.now t) in
-    let v = subst (λ (r : Reading Term). IsGiven (g.R.Read.remaining c.args.input.now.reader.now) w r) c.in-Good.is c.in_ok-refusal.ensures.read in
+    let v = subst (λ (r : Reading Term). IsGivenIn form.Term (g.R.Read.remaining c.args.input.now.reader.now) w r) c.in-Good.is c.in_ok-refusal.ensures.read in
     if_ok_map c.match_term.result _ _
     (λ answer h. due_read _ (answer_due (g.B.TermBank.store c.match_term.new.bank) answer) (due_of lines) v.0 v.2
     (spelt_due (due_of lines) source.Term w c.in-Good.t v.0 v.1 _ h))

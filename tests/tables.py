@@ -1,0 +1,337 @@
+#!/usr/bin/env -S python3 -B
+"""Compares the tables of `recw` with a second description of tables: tables.py [PROGRAM].
+
+Here a term is a tree, a part of it is known by its text, and a table is written and read by recursion. The terms and
+tables are random, 20,000 in all; a quarter of the tables are wrong. `eval` gets many terms at a time, each other
+command is run over many files by one shell. At the end come terms that are far larger than their tables.
+"""
+
+import random
+import subprocess
+import tempfile
+import time
+from collections import Counter
+from typing import NamedTuple
+
+from attempts import TRIED, check, check_long, passed, recw, room, write_file
+from common import FAILURES, program
+
+# How many terms or tables each command gets.
+COUNTS = {
+    ("aterm", "--to-table"): 3000,
+    ("aterm", "--from-table"): 3000,
+    ("aterm", "--from-table", "--to-table"): 2000,
+    ("share", "--to-table"): 2000,
+    ("share", "--from-table", "--to-table"): 2000,
+}
+RUNS, TERMS = 40, 200
+# Names as they are printed, some of which are longer than a number of an element.
+NAMES = ["a", "f", "pair", "longer-name.x", "seven_7", "nine_byte", '"f"', '"q\\"\\\\\\n"', '"\\377\\000"', '""', ""]
+INTEGERS = [0, 1, -1, 7, 12345678, 123456789, 2147483647, -2147483648]
+# Up to which length a number of an element is not worth its place, in bytes.
+SHORT = 8
+# The longest text of a term that `aterm --from-table` writes, in bytes.
+LONGEST = 16777216
+CONSTRUCTORS = {"z": 0, "leaf": 0, "a-long-leaf": 0, "s": 1, "pair": 2, "node": 2, "three": 3}
+# A specification by which a value has twice as many leaves for each `s`.
+DOUBLE = """REC-SPEC D SORTS N T CONS z : -> N s : N -> N leaf : -> T node : T T -> T
+OPNS d : N -> T twice : T -> T VARS X : N Y : T
+RULES d(z) -> leaf d(s(X)) -> twice(d(X)) twice(Y) -> node(Y,Y) END-SPEC
+"""
+# Texts that are no terms, no tables, and tables with a wrong placeholder.
+REFUSED = {
+    "A": ["", "[a", "[a,<>]", "[a,<0,0>]", "[a,<2147483648>]", "[a,<-2147483649>]"],
+    "R1": ["a", "3", "<0>", "f([a])", "[]", "[]{a}", "[a]{b}", "[<9>]{b}", "[<foo>]{<[a]>}"],
+    "R2": [
+        *("[<0>]", "[a,<1>]", "[a,<2>,b]", "[a,b,f(c,<2>)]", "[a,<2147483647>]", "[a,<-1>]", "[a,<-2147483648>]"),
+        *("[a,<foo>]", '[a,<"0">]', "[a,<f(0)>]", "[a,<0>{b}]", "[a,<0{b}>]", "[a,<<0>>]"),
+        *("[a,<[]>]", "[a,<[b,c]>]", "[a,<[b]{c}>]", "[a,<[<1>]>]", "[a,b{<foo>}]", "[a,<[b]>{<7>}]", "[f(<0>),b]"),
+    ],
+}
+
+
+class Tree:
+    """A term: its kind, its number or its name as it is printed, what is in it, and its annotations."""
+
+    def __init__(self, kind, head="", items=(), notes=()):
+        self.kind, self.head, self.items, self.notes = kind, head, items, notes
+        self.text = self.spelled([it.text for it in items], [it.text for it in notes])
+
+    def spelled(self, items, notes):
+        """The text with these texts in it."""
+        inside = ",".join(items)
+        body = {
+            "integer": f"{self.head}",
+            "application": f"{self.head}({inside})" if items or not self.head else self.head,
+            "list": f"[{inside}]",
+            "placeholder": f"<{inside}>",
+        }[self.kind]
+        return f"{body}{{{','.join(notes)}}}" if notes else body
+
+    def parts(self):
+        """The terms one step inside."""
+        return [*self.items, *self.notes]
+
+
+class Wrong(Exception):
+    """A term is no table, by the rule that is named."""
+
+
+class Case(NamedTuple):
+    """What a command gets, and the lines and the status that it should have."""
+
+    text: str
+    lines: list
+    status: int
+
+
+# ---- tables
+
+
+def different(tree, found):
+    """The different terms in a tree by their texts, each after those in it."""
+    for it in tree.parts():
+        different(it, found)
+    found.setdefault(tree.text, tree)
+    return found
+
+
+def table(tree):
+    """The text of the table of a tree."""
+    found = different(tree, {})
+    uses = Counter(part.text for it in found.values() for part in it.parts())
+    shared = [text for text in found if uses[text] > 1 and len(text) > SHORT]
+    numbers = {text: number for number, text in enumerate(shared)}
+
+    def element(it):
+        items, notes = ([written(part) for part in of] for of in (it.items, it.notes))
+        return it.spelled([f"[{items[0]}]"] if it.kind == "placeholder" else items, notes)
+
+    def written(it):
+        return f"<{numbers[it.text]}>" if it.text in numbers else element(it)
+
+    return f"[{','.join([*(element(found[text]) for text in shared), written(tree)])}]"
+
+
+def opened(tree, terms):
+    """The tree of an element after elements with these terms."""
+    if tree.kind != "placeholder":
+        items, notes = ([opened(it, terms) for it in of] for of in (tree.items, tree.notes))
+        return Tree(tree.kind, tree.head, items, notes)
+    (inner,) = tree.items
+    if inner.kind == "integer" and not inner.notes and not tree.notes and 0 <= inner.head < len(terms):
+        return terms[inner.head]
+    if inner.kind == "list" and len(inner.items) == 1 and not inner.notes:
+        return Tree("placeholder", "", [opened(inner.items[0], terms)], [opened(it, terms) for it in tree.notes])
+    raise Wrong("R2")
+
+
+def term_of(tree):
+    """The tree of a table."""
+    if tree.kind != "list" or tree.notes or not tree.items:
+        raise Wrong("R1")
+    terms = []
+    for it in tree.items:
+        terms.append(opened(it, terms))
+    return terms[-1]
+
+
+def cells(tree):
+    """The number of cells of a tree: one for each part, list of arguments, list of annotations, and tail of a list."""
+    found = set()
+
+    def add(it):
+        if it.text in found:
+            return
+        found.add(it.text)
+        if it.kind == "list" and it.items:
+            add(it.items[0])
+            add(Tree("list", "", it.items[1:]))
+        elif it.kind == "application":
+            add(Tree("list", "", it.items))
+        elif it.kind == "placeholder":
+            add(it.items[0])
+        if it.notes:
+            add(Tree("list", "", it.notes))
+
+    add(tree)
+    return len(found)
+
+
+# ---- random terms and tables
+
+
+def term(chance, known, depth):
+    """A random tree, in which trees that were made before are used again."""
+    if known and chance.random() < 0.35:
+        return chance.choice(known)
+    small = ["integer", "application", "application", "application", "list"]
+    kind = chance.choice([*small, "list", "placeholder", "placeholder"] if depth else small)
+    count = {"integer": 0, "placeholder": 1}.get(kind, chance.randrange(1, 4) if depth else 0)
+    items = [term(chance, known, depth - 1) for _ in range(count)]
+    noted = chance.randrange(3) if depth and chance.random() < 0.2 else 0
+    notes = [term(chance, known, depth - 1) for _ in range(noted)]
+    head = {"integer": chance.choice(INTEGERS), "application": chance.choice(NAMES)}.get(kind, "")
+    known.append(Tree(kind, head, items, notes))
+    return known[-1]
+
+
+def number_of(chance, count):
+    """A placeholder of a number, mostly of one of `count` elements."""
+    others = [count, count + 1, *INTEGERS]
+    number = chance.randrange(count) if count and chance.random() < 0.985 else chance.choice(others)
+    return Tree("placeholder", "", [Tree("integer", number)])
+
+
+def element(chance, count, depth):
+    """A random element after `count` elements, which is now and then wrong."""
+    if chance.random() < ((0.3 if depth else 0.6) if count else 0.02):
+        return number_of(chance, count)
+    if not depth:
+        return term(chance, [], 0)
+    kind = chance.choice(["application", "list", "placeholder"])
+    items = [element(chance, count, depth - 1) for _ in range(chance.randrange(1, 4))]
+    notes = [element(chance, count, depth - 1)] if chance.random() < 0.2 else []
+    if kind == "placeholder":
+        listed = Tree("list", "", items[:1])
+        spoilt = [Tree("list", "", items + items), items[0], Tree("list", "", items[:1], items[:1])]
+        items = [chance.choice(spoilt) if chance.random() < 0.03 else listed]
+    return Tree(kind, chance.choice(NAMES) if kind == "application" else "", items, notes)
+
+
+def table_tree(chance):
+    """A random table, of which some are wrong."""
+    elements = []
+    for _ in range(chance.randrange(1, 8)):
+        elements.append(element(chance, len(elements), chance.randrange(4)))
+    spoilt = [Tree("list"), Tree("list", "", elements, elements[:1]), elements[0]]
+    return chance.choice(spoilt) if chance.random() < 0.05 else Tree("list", "", elements)
+
+
+def case(words, tree):
+    """What the command with these words should write for a tree."""
+    try:
+        tree, text = term_of(tree) if "--from-table" in words else tree, tree.text
+    except Wrong as fault:
+        return Case(tree.text, [f"!term {fault}"], 1)
+    lines = [table(tree) if "--to-table" in words else tree.text]
+    return Case(text, [*lines, f"cells {cells(tree)}"] if words[0] == "share" else lines, 0)
+
+
+def cases(chance, words):
+    """Random cases of a command, without those whose terms are too long for a test."""
+    while True:
+        found = case(words, table_tree(chance) if "--from-table" in words else term(chance, [], chance.randrange(6)))
+        if max(map(len, found.lines)) < 5000:
+            yield found
+
+
+def run_files(folder, words, texts):
+    """The output of a command over a file with each of these texts, with the status after each."""
+    for number, text in enumerate(texts):
+        write_file(f"{folder}/{number}", text)
+    script = 'for it in $(seq 0 $(($1 - 1))); do "$2" $3 "$4/$it"; echo "status $?"; done'
+    words = ["sh", "-c", script, "sh", str(len(texts)), program(), " ".join(words), folder]
+    return subprocess.run(words, capture_output=True, encoding="latin-1", check=False).stdout
+
+
+def compare_files(chance, words, count):
+    """Compares a command over random files, and the numbers of those that are rejected."""
+    wanted = [it for it, _ in zip(cases(chance, words), range(count))]
+    with room() as folder:
+        found = iter(run_files(folder, words, [it.text for it in wanted]).splitlines())
+    for it in wanted:
+        lines = []
+        for line in found:
+            lines.append(line)
+            if line.startswith("status "):
+                break
+        check(f"{' '.join(words)}: {it.text}", [*it.lines, f"status {it.status}"], lines)
+    return Counter(it.lines[0] for it in wanted if it.status)
+
+
+# ---- values
+
+
+def value(chance, known, depth):
+    """A random term of constructors."""
+    if known and chance.random() < 0.3:
+        return chance.choice(known)
+    name = chance.choice([it for it in CONSTRUCTORS if depth or not CONSTRUCTORS[it]])
+    known.append(Tree("application", name, [value(chance, known, depth - 1) for _ in range(CONSTRUCTORS[name])]))
+    return known[-1]
+
+
+def compare_values(chance, folder):
+    """Compares the tables of values, each with annotations or none."""
+    signatures = "\n".join(f"{name} : {'T ' * count}-> T" for name, count in CONSTRUCTORS.items())
+    spec = write_file(f"{folder}/values.rec", f"REC-SPEC V SORTS T CONS\n{signatures}\nEND-SPEC\n")
+    for run in range(RUNS):
+        given = []
+        for _ in range(TERMS):
+            known = []
+            tree = value(chance, known, chance.randrange(6))
+            notes = [term(chance, known, 3)] if chance.random() < 0.3 else []
+            given.append(Tree(tree.kind, tree.head, tree.items, notes))
+        given = [it for it in given if len(it.text) < 5000]
+        terms = write_file(f"{folder}/values.trm", f"[{','.join(it.text for it in given)}]")
+        status, found, errors = recw("eval", "--to-table", spec, terms)
+        check(f"values {run}: status", (0, ""), (status, errors))
+        for it, line in zip(given, found.splitlines()):
+            check(f"value {it.text}", table(it), line)
+        check(f"values {run}: lines", len(given), found.count("\n"))
+
+
+# ---- hard cases
+
+
+def doubling(first, height):
+    """The text of a table whose elements have the element before them twice."""
+    return f"[{','.join([first, *(f'node(<{it}>,<{it}>)' for it in range(height))])}]"
+
+
+def compare_large(folder):
+    """Compares terms of 2^60 and 2^1000 leaves, and a term with a million references."""
+    spec = write_file(f"{folder}/double.rec", DOUBLE)
+    for height in (60, 1000):
+        file = write_file(f"{folder}/doubling", doubling("leaf", height))
+        wanted = doubling("node(leaf,leaf)", height - 1)
+        check(f"2^{height} leaves", (0, f"{wanted}\n", ""), recw("aterm", "--from-table", "--to-table", file))
+        shared = (0, f"{wanted}\ncells {3 * height + 2}\n", "")
+        check(f"2^{height} leaves: cells", shared, recw("share", "--from-table", "--to-table", file))
+        check(f"2^{height} leaves: text", (0, f"!bytes {LONGEST}\n", ""), recw("aterm", "--from-table", file))
+        call = f"d({'s(' * height}z{')' * height})"
+        check(f"2^{height} leaves: value", (0, f"{wanted}\n", ""), recw("eval", "--to-table", "-e", call, spec))
+    many = f"[pair(a,b),f({','.join(['<0>'] * 1_000_000)})]"
+    file = write_file(f"{folder}/many", many)
+    check_long("a million references", (0, f"{many}\n", ""), recw("aterm", "--from-table", "--to-table", file))
+    text = many[len("[pair(a,b),") : -1].replace("<0>", "pair(a,b)")
+    check_long("a million references: text", (0, f"{text}\n", ""), recw("aterm", "--from-table", file))
+
+
+def compare_refused(folder):
+    """Compares texts that are rejected, and a text that is too long."""
+    for code, texts in REFUSED.items():
+        for words in COUNTS:
+            if "--from-table" in words:
+                found = run_files(folder, words, texts)
+                check(f"{' '.join(words)}: {code}", f"!term {code}\nstatus 1\n" * len(texts), found)
+    long = write_file(f"{folder}/long", f"[{' ' * LONGEST}a]")
+    check("a long text", (1, "!term L1\n", ""), recw("aterm", "--from-table", long))
+
+
+def main():
+    chance, begin = random.Random(1), time.monotonic()
+    rejected = Counter()
+    for words, count in COUNTS.items():
+        rejected += compare_files(chance, words, count)
+    with tempfile.TemporaryDirectory() as folder:
+        compare_values(chance, folder)
+        compare_large(folder)
+        compare_refused(folder)
+    print(f"tables.py: {passed()} of {len(TRIED)} as wanted, {dict(rejected)}, {time.monotonic() - begin:.0f} s")
+    raise SystemExit(1 if FAILURES else 0)
+
+
+if __name__ == "__main__":
+    main()
