@@ -5,8 +5,8 @@ use std::alloc::Global;
 use std::process::Abort;
 use std::rt::Files;
 
-/// Arguments that are usage errors.
-const WRONG_WORDS: [&[&str]; 116] = [
+/// Arguments of eval that are usage errors.
+const WRONG_EVAL: &[&[&str]] = &[
     &["eval", "--cells", "0"],
     &["eval", "--cells", "1073741825"],
     &["eval", "--reclaim", "0"],
@@ -14,12 +14,8 @@ const WRONG_WORDS: [&[&str]; 116] = [
     &["eval", "--memo", "1048577"],
     &["eval", "--depth", "4294967296"],
     &["eval", "--depth", "-1"],
-    &["serve", "--depth", "x", "a"],
-    &["aterm", "--depth", "1"],
     &["eval", "--bytes", "1000000000000000001"],
     &["eval", "--bytes", "-1"],
-    &["serve", "--bytes", "x", "a"],
-    &["trace", "-", "--bytes", "1"],
     &["eval", "--steps", "3", "--steps", "4"],
     &["eval", "--count", "--count"],
     &["eval", "--steps", "1000000000000000001"],
@@ -27,18 +23,8 @@ const WRONG_WORDS: [&[&str]; 116] = [
     &["eval", "--steps", "x"],
     &["eval", "--steps"],
     &["eval", "a", "b", "c"],
-    &["--steps", "3"],
     &["eval", "-7"],
-    &["match"],
-    &["match", "a", "b", "c"],
-    &["match", "-7"],
-    &["make"],
-    &["make", "a"],
-    &["make", "a", "b", "c"],
-    &["share", "a", "b"],
-    &["--explain"],
     &["eval", "--explain", "--explain"],
-    &["match", "--test", "a", "--test"],
     &["eval", "-e"],
     &["eval", "a", "b", "-e", "c"],
     &["eval", "-", "-"],
@@ -46,21 +32,8 @@ const WRONG_WORDS: [&[&str]; 116] = [
     &["eval", "--test"],
     &["eval", "--limit-status", "--limit-status"],
     &["eval", "--stuck", "--stuck"],
-    &["trace", "-", "--stuck"],
     &["eval", "--profile", "--profile"],
     &["eval", "--progress", "--progress"],
-    &["trace", "-", "--profile"],
-    &["serve", "a", "--progress"],
-    &["match", "--limit-status", "a"],
-    &["aterm", "-e", "a"],
-    &["trace"],
-    &["trace", "-", "-"],
-    &["trace", "a", "b", "c"],
-    &["trace", "-", "a", "-e", "z"],
-    &["trace", "-", "-e", "z", "--term", "0"],
-    &["trace", "-", "--term", "x"],
-    &["trace", "-", "--only-terms"],
-    &["trace", "-", "--rules", "--rules"],
     &["eval", "--term", "0"],
     &["eval", "--term", "1000000000000000001"],
     &["eval", "--term", "1", "--term", "2"],
@@ -68,15 +41,8 @@ const WRONG_WORDS: [&[&str]; 116] = [
     &["eval", "--only-terms", "--term", "1", "-e", "z"],
     &["eval", "--only-terms", "--only-terms", "-e", "z"],
     &["eval", "--input", "z", "a", "b"],
-    &["serve", "a", "--term", "1"],
-    &["serve", "a", "--only-terms"],
     &["eval", "--to-table", "--bytes", "9"],
     &["eval", "--to-table", "--to-table"],
-    &["serve", "a", "--to-table", "--bytes", "9"],
-    &["trace", "-", "--to-table"],
-    &["trace", "-", "--sizes"],
-    &["serve", "a", "--sizes"],
-    &["serve", "a", "--dot", "1"],
     &["eval", "--dot"],
     &["eval", "--dot", "0"],
     &["eval", "--dot", "x"],
@@ -90,6 +56,60 @@ const WRONG_WORDS: [&[&str]; 116] = [
     &["eval", "--dot", "1", "--profile"],
     &["eval", "--dot", "1", "--nodes", "0"],
     &["eval", "--nodes", "3"],
+    &["eval", "--whole"],
+];
+
+/// Arguments of trace and serve that are usage errors.
+const WRONG_TRACE: &[&[&str]] = &[
+    &["serve", "--depth", "x", "a"],
+    &["serve", "--bytes", "x", "a"],
+    &["trace", "-", "--bytes", "1"],
+    &["trace", "-", "--stuck"],
+    &["trace", "-", "--profile"],
+    &["serve", "a", "--progress"],
+    &["trace"],
+    &["trace", "-", "-"],
+    &["trace", "a", "b", "c"],
+    &["trace", "-", "a", "-e", "z"],
+    &["trace", "-", "-e", "z", "--term", "0"],
+    &["trace", "-", "--term", "x"],
+    &["trace", "-", "--only-terms"],
+    &["trace", "-", "--rules", "--rules"],
+    &["serve", "a", "--term", "1"],
+    &["serve", "a", "--only-terms"],
+    &["serve", "a", "--to-table", "--bytes", "9"],
+    &["trace", "-", "--to-table"],
+    &["trace", "-", "--sizes"],
+    &["serve", "a", "--sizes"],
+    &["serve", "a", "--dot", "1"],
+    &["trace", "-", "--memo", "0"],
+    &["trace", "-", "--width", "2"],
+    &["trace", "-", "--width", "x"],
+    &["trace", "-", "--last", "1073741825"],
+    &["trace", "-", "--first", "-1"],
+    &["trace", "-", "--rule", "3"],
+    &["trace", "-", "--rule", "3:5:7"],
+    &["trace", "-", "--rule", "0:1"],
+    &["trace", "-", "--rule", "3:"],
+    &["trace", "-", "--rule", "3:5", "--rule", "4:5"],
+    &["trace", "-", "--whole", "--whole"],
+];
+
+/// Arguments of the other commands, and of none, that are usage errors.
+const WRONG_OTHERS: &[&[&str]] = &[
+    &["aterm", "--depth", "1"],
+    &["--steps", "3"],
+    &["match"],
+    &["match", "a", "b", "c"],
+    &["match", "-7"],
+    &["make"],
+    &["make", "a"],
+    &["make", "a", "b", "c"],
+    &["share", "a", "b"],
+    &["--explain"],
+    &["match", "--test", "a", "--test"],
+    &["match", "--limit-status", "a"],
+    &["aterm", "-e", "a"],
     &["aterm", "--width", "8"],
     &["aterm", "--indent", "2", "--width", "0"],
     &["aterm", "--indent", "2", "--width", "1073741825"],
@@ -104,18 +124,6 @@ const WRONG_WORDS: [&[&str]; 116] = [
     &["share", "--dot", "--to-table"],
     &["share", "--from-table", "--dot", "--to-table"],
     &["match", "--from-table", "a"],
-    &["trace", "-", "--memo", "0"],
-    &["trace", "-", "--width", "2"],
-    &["trace", "-", "--width", "x"],
-    &["trace", "-", "--last", "1073741825"],
-    &["trace", "-", "--first", "-1"],
-    &["trace", "-", "--rule", "3"],
-    &["trace", "-", "--rule", "3:5:7"],
-    &["trace", "-", "--rule", "0:1"],
-    &["trace", "-", "--rule", "3:"],
-    &["trace", "-", "--rule", "3:5", "--rule", "4:5"],
-    &["trace", "-", "--whole", "--whole"],
-    &["eval", "--whole"],
     &["share", "--nodes", "5"],
     &["share", "--dot", "--nodes", "0"],
     &["check", "--format", "-"],
@@ -125,11 +133,21 @@ const WRONG_WORDS: [&[&str]; 116] = [
     &["help", "S12"],
 ];
 
+/// All arguments that are usage errors.
+const WRONG_WORDS: [&[&[&str]]; 3] = [WRONG_EVAL, WRONG_TRACE, WRONG_OTHERS];
+
 /// Checks that these arguments are a usage error, and that nothing is written on standard output.
 fn refuses<H: Abort + Files>(rt: &H, alloc: Global, words: &[&str]) {
     let ran = run(rt, alloc, words, ADDITION);
     let is_refused = ran.status == 2 && ran.out().is_empty() && ran.err().starts_with("error: ");
     assert!(rt; is_refused, "{words:?}: {}", ran.err());
+}
+
+/// Checks that each of these arguments is a usage error.
+fn all_refuse<H: Abort + Files>(rt: &H, alloc: Global, rows: &[&[&str]]) {
+    for words in rows {
+        refuses(rt, alloc, words);
+    }
 }
 
 /// Selections that name nothing in the addition, and their usage errors.
@@ -182,7 +200,7 @@ fn refuses_what_is_not_there(rt: HostRuntime) {
 
 #[test]
 fn refuses_words(rt: HostRuntime) {
-    for words in &WRONG_WORDS {
-        refuses(&rt, rt.alloc(), words);
+    for rows in &WRONG_WORDS {
+        all_refuse(&rt, rt.alloc(), rows);
     }
 }
