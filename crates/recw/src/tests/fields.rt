@@ -88,7 +88,7 @@ const OPTIONS: [Row; 9] = [
         &["eval", "--dot", "5"],
         [1_000_000, 16_777_216, 65_536, 262_144],
         [false, false, false, false, false, false, false],
-        (None, None, Some(2000), TermChoice::Nth(5)),
+        (None, None, Some(1000), TermChoice::Nth(5)),
     ),
     (
         &["eval", "--nodes=7", "--dot=1"],
