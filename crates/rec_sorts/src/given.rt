@@ -318,8 +318,9 @@ fn broken_rule<B: TermBank>(
 
 /// Checks a list of input terms against the rules T1 to T6. Returns `Rule` with the number of the
 /// lowest-numbered violated rule, or `Memory` if an allocation failed. The store is only read. A
-/// subterm that occurs often is checked once: takes expected time linear in the number of different
-/// subterms, their arguments and the lengths of their names, and memory for a set of them.
+/// shared argument is visited once: takes expected time linear in the length of the list and in the
+/// number of different subterms, with their arguments and the lengths of their names, and memory for
+/// a set of these subterms.
 pub fn check_terms<B: TermBank>(
     alloc: Global,
     checked: &Checked,
