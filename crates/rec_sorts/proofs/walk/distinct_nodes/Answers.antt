@@ -4,7 +4,6 @@ use Rattle.std.specs.Prelude.{nat_eq}
 use Rattle.std.specs.List.{list_any}
 use Rattle.rx_term.specs.Walks.{AllHeld}
 use Rattle.rx_term.proofs.WalkLemmas.{AllHeld-push, AllHeld-split}
-use Rattle.rec_sorts.specs.Walking.{numbers}
 use Rattle.rec_sorts.proofs.VisitLemmas.{different-more, seen, seen-more, skipped-less, unseen, visits-end, visits-find, visits-skip}
 use Rattle.rec_sorts.proofs.WalkedLemmas.{node_less}
 use Rattle.rec_sorts.proofs.walk.distinct_nodes.Goals as goal
