@@ -49,6 +49,8 @@ pub mod TermLemmas
 pub mod MakingLemmas
 pub mod CallLemmas
 pub mod SpelledLemmas
+pub mod SharedLemmas
+pub mod ShapeLemmas
 pub mod RootLemmas
 pub mod ControlLemmas
 pub mod LimitLemmas

@@ -7,6 +7,7 @@ pub mod Given
 pub mod Heap
 pub mod Made
 pub mod Pace
+pub mod Shared
 pub mod Started
 pub mod Turned
 pub mod Written

@@ -8,6 +8,7 @@ mod lent;
 pub(crate) mod limits;
 mod parts;
 mod prepared;
+mod shared;
 mod shorthand;
 pub(crate) mod watch;
 

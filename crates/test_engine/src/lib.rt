@@ -7,7 +7,7 @@
 //! | Module | Subject |
 //! |---|---|
 //! | `memo` | the memo table |
-//! | `engine`, `depth`, `observed`, `values`, `lent` | evaluation |
+//! | `engine`, `depth`, `observed`, `values`, `lent`, `shared` | evaluation |
 //! | `trace`, `trace_lines` | evaluation step by step |
 //! | `callers` | the example clients of `example_client` |
 //! | `banks`, `cases`, `texts` | stores, engines and specifications for tests |
@@ -32,6 +32,8 @@ mod lent;
 mod memo;
 #[cfg(test)]
 mod observed;
+#[cfg(test)]
+mod shared;
 #[cfg(test)]
 mod texts;
 #[cfg(test)]

@@ -24,10 +24,14 @@ use crate::engine::watch::{Control, Watch, Watching};
 use crate::engine::{Controlled, Engine, Outcome, let_go};
 use crate::heap::cells::Node;
 use crate::heap::work::push;
-use crate::terms::given::load;
+use crate::terms::given::Reader;
 use crate::vm::{End, Machine};
 use rx_term::{Term, TermBank};
 use std::alloc::{AllocError, Global};
+
+/// The greatest number of occurrences of subterms with which a term is compiled at once. A term with
+/// more is first looked at by its different subterms.
+const MOST_OCCURRENCES: usize = 1 << 20;
 
 /// The result of evaluating a term.
 #[derive(Clone, Copy)]
@@ -111,7 +115,53 @@ impl<B: TermBank> Machine<B> {
     }
 
     /// Evaluates a ground term with a step limit of `n`. Its code is appended to that of the rules
-    /// meanwhile. `found` is scratch space.
+    /// meanwhile. Returns `None` if the term has more than `most` occurrences of subterms. `found`
+    /// is scratch space.
+    pub(crate) fn evaluate_within<C: Control>(
+        &mut self,
+        found: &mut Vec<Op>,
+        t: Term,
+        n: u64,
+        most: usize,
+        control: &mut C,
+    ) -> Result<Option<Reached>, EngineFault>
+        requires ready { IsReady B.store self.old }
+        requires given { IsGiven self.old.checked.spec (B.store self.old.heap.bank) t }
+        ensures ready { IsReady B.store self.new }
+        ensures spec { self.new.checked.spec ≡ self.old.checked.spec }
+        ensures keeps { Keeps (B.store self.old.heap.bank) (B.store self.new.heap.bank) (t ∷ []) }
+        ensures exact { IfOk result (λ r. IfSome r (λ r. (u : Tree)
+            → tree_at (B.store self.old.heap.bank) t ≡ Some u
+            → IsAnswer self.old.checked.spec (B.store self.new.heap.bank) n (term_of u) r)) }
+        ensures held { IfOk result (λ r. IsHeld B.store self.new.heap) }
+        ensures stands { IfOk result (λ r. IfSome r (StandsAbove self.new.heap.work.items t)) }
+        ensures depth { self.new.state.depth ≡ self.old.state.depth }
+        ensures deep { IfOk result (λ r. r ≡ Some Deep → AreFull self.new.state) }
+        ensures obeys { Obeys (Some Reached.Stopped) (C.has_requested control.old)
+            (C.has_requested control.new) result }
+        ensures room { RoomOnlyIn B.store self.new result }
+    {
+        self.heap.work.clear();
+        let pc = self.code.ops.len();
+        let reader = Reader {
+            checked: &self.checked,
+            bank: &self.heap.bank,
+            links: &self.code.links,
+        };
+        let stack = &mut self.state.pending;
+        let whole = match reader.load(stack, found, &mut self.code.ops, t, most) {
+            Ok(whole) => whole,
+            Err(_) => return Err(EngineFault::Memory),
+        };
+        if !whole {
+            return Ok(None);
+        }
+        let reached = self.evaluate(pc, t, n, control);
+        self.code.ops.truncate(pc);
+        Ok(Some(reached?))
+    }
+
+    /// Evaluates a ground term with a step limit of `n`. `found` is scratch space.
     fn evaluate_given<C: Control>(
         &mut self,
         found: &mut Vec<Op>,
@@ -135,24 +185,10 @@ impl<B: TermBank> Machine<B> {
             (C.has_requested control.new) result }
         ensures room { RoomOnlyIn B.store self.new result }
     {
-        self.heap.work.clear();
-        let pc = self.code.ops.len();
-        let stack = &mut self.state.pending;
-        match load(
-            &self.checked,
-            &self.heap.bank,
-            &self.code.links,
-            stack,
-            found,
-            &mut self.code.ops,
-            t,
-        ) {
-            Ok(()) => {}
-            Err(_) => return Err(EngineFault::Memory),
+        match self.evaluate_within(found, t, n, MOST_OCCURRENCES, control)? {
+            Some(reached) => Ok(reached),
+            None => self.evaluate_shared(found, t, n, control),
         }
-        let reached = self.evaluate(pc, t, n, control);
-        self.code.ops.truncate(pc);
-        reached
     }
 
     /// Evaluates a ground term with a step limit of `n`, and puts its annotations on the value.
@@ -195,6 +231,12 @@ impl<B: TermBank> Machine<B> {
 impl<B: TermBank> Engine<B> {
     /// Evaluates a term within these limits, and puts its annotations on the normal form, unless
     /// the control stops the evaluation at a progress report. The control is called only then.
+    ///
+    /// A term with at most 1,048,576 occurrences of subterms is compiled, with an instruction for
+    /// each. Of a larger one each different subterm is visited once. If no symbol in its arguments
+    /// has rules, its own symbol is called on them, so that a subterm that occurs often costs no
+    /// more than once. Otherwise it is compiled too, unless it has more than `u32::MAX` occurrences:
+    /// then the error is `Memory`.
     pub fn normalise_controlled<C: Control>(
         &mut self,
         t: Term,
@@ -229,7 +271,8 @@ impl<B: TermBank> Engine<B> {
     }
 
     /// Evaluates a term within these limits, and puts its annotations on the normal form. The watch
-    /// is called during the evaluation, and once when it has ended.
+    /// is called during the evaluation, and once when it has ended. Shared subterms are treated as
+    /// by [`Engine::normalise_controlled`].
     pub fn normalise_with<V: Watch>(
         &mut self,
         t: Term,

@@ -1,63 +1,18 @@
-use Rattle.std.proofs.Common.{◌∙◌, ◌≡◌, Some, subst, sym, refl, drop}
-use Rattle.std.proofs.lemmas.Result.{IfOk-weaker}
-use Rattle.rx_term.specs.Tree.{Tree}
-use Rattle.rx_term.specs.Store.{tree_at}
-use Rattle.rx_term.specs.Walks.{held_tree}
-use Rattle.rec_syntax.specs.Syntax.{Term}
-use Rattle.rec_sorts.specs.Evaluation.{term_of}
-use Rattle.rec_sorts.proofs.WalkedLemmas.{held}
-use Rattle.rec_engine.specs.Machine.{AreConstants}
-use Rattle.rec_engine.specs.Inner.Answered.{IsTermCode, IsAnswer}
-use Rattle.rec_engine.proofs.NormalLemmas.{given-nodes, code-same, code-loaded, constants-loaded, loaded-own, ready-cut}
+use Rattle.rec_engine.proofs.SharedLemmas.{given-kept, kept-twice, answer-before}
 use Rattle.rec_engine.proofs.vm.Machine.evaluate_given.Goals as goal
 
-pub load-requires-clause-nodes : goal.load-requires-clause-nodes
-load-requires-clause-nodes g c = given-nodes c.args.self.now.checked.spec (g.B.TermBank.store c.args.self.now.heap.bank) c.args.t c.requires.given
+pub evaluate_shared-requires-clause-given : goal.evaluate_shared-requires-clause-given
+evaluate_shared-requires-clause-given g c =
+    given-kept c.args.self.now.checked.spec c.evaluate_within.new.self.checked.spec (g.B.TermBank.store c.args.self.now.heap.bank)
+    (g.B.TermBank.store c.evaluate_within.new.self.heap.bank) c.args.t c.evaluate_within.ensures.spec c.evaluate_within.ensures.keeps c.requires.given
 
-pub returns-in-Err-clause-ready : goal.returns-in-Err-clause-ready
-returns-in-Err-clause-ready g c = record {
-  code = code-same c.args.self.now.checked.spec c.args.self.now.code _ refl refl refl c.in-Err.ensures.same c.requires.ready.code;
-  linked = c.requires.ready.linked;
-  constants = subst (λ xs. AreConstants c.args.self.now.checked.spec xs (g.B.TermBank.store c.args.self.now.heap.bank)
-      c.args.self.now.heap.pace.constants) (sym c.in-Err.ensures.same) c.requires.ready.constants;
-  results = c.requires.ready.results;
-}
+pub returns-in-None-clause-keeps : goal.returns-in-None-clause-keeps
+returns-in-None-clause-keeps g c =
+    kept-twice (g.B.TermBank.store c.args.self.now.heap.bank) (g.B.TermBank.store c.evaluate_within.new.self.heap.bank)
+    (g.B.TermBank.store c.evaluate_shared.new.self.heap.bank) c.args.t c.evaluate_within.ensures.keeps c.evaluate_shared.ensures.keeps
 
-pub evaluate-reached-requires-clause-ready : goal.evaluate-reached-requires-clause-ready
-evaluate-reached-requires-clause-ready g c = record {
-  code = code-loaded c.args.self.now.checked.spec (held_tree (g.B.TermBank.store c.args.self.now.heap.bank) c.args.t) c.args.self.now.code _ refl refl refl
-      c.in-Ok.ensures.loads c.requires.ready.code;
-  linked = c.requires.ready.linked;
-  constants = constants-loaded c.args.self.now.checked.spec (held_tree (g.B.TermBank.store c.args.self.now.heap.bank) c.args.t)
-      c.args.self.now.code.ops.items c.load.new.ops.items (g.B.TermBank.store c.args.self.now.heap.bank) c.args.self.now.heap.pace.constants
-      c.in-Ok.ensures.loads c.requires.ready.constants;
-  results = c.requires.ready.results;
-}
-
-pub evaluate-reached-requires-clause-own : goal.evaluate-reached-requires-clause-own
-evaluate-reached-requires-clause-own g c =
-    let u = held_tree (g.B.TermBank.store c.args.self.now.heap.bank) c.args.t in (
-      term_of u,
-      loaded-own c.args.self.now.checked.spec u c.args.self.now.code.ops.items c.load.new.ops.items c.len-pc.result c.in-Ok.ensures.loads
-          (c.len-pc.ensures ∙ c.args.self.now.code.ops.ok.0),
-    )
-
-pub returns-clause-ready : goal.returns-clause-ready
-returns-clause-ready g c =
-    let y = c.args.self.now.checked.spec in
-    let u = held_tree (g.B.TermBank.store c.args.self.now.heap.bank) c.args.t in
-    ready-cut y u c.args.self.now.code _ _ _ c.evaluate-reached.ensures.stays refl refl refl c.len-pc.result c.in-Ok.ensures.loads
-    (c.len-pc.ensures ∙ c.args.self.now.code.ops.ok.0) refl refl refl c.truncate.ensures.items c.requires.ready.code
-
-pub returns-clause-exact : goal.returns-clause-exact
-returns-clause-exact g c =
-    let y = c.args.self.now.checked.spec in
-    let w0 = g.B.TermBank.store c.args.self.now.heap.bank in
-    let w1 = g.B.TermBank.store c.evaluate-reached.new.self.heap.bank in
-    let own = loaded-own y (held_tree w0 c.args.t) c.args.self.now.code.ops.items c.load.new.ops.items c.len-pc.result c.in-Ok.ensures.loads
-    (c.len-pc.ensures ∙ c.args.self.now.code.ops.ok.0) in
-    IfOk-weaker c.evaluate-reached.result
-    (λ r. (x : Term) → IsTermCode y x (drop c.len-pc.result c.load.new.ops.items) → IsAnswer y w1 c.args.n x r)
-    (λ r. (u : Tree) → tree_at w0 c.args.t ≡ Some u → IsAnswer y w1 c.args.n (term_of u) r)
-    (λ r h u e. h (term_of u) (subst (λ x. IsTermCode y (term_of x) (drop c.len-pc.result c.load.new.ops.items)) (held w0 c.args.t u e) own))
-    c.evaluate-reached.ensures.exact
+pub returns-in-None-clause-exact : goal.returns-in-None-clause-exact
+returns-in-None-clause-exact g c =
+    answer-before c.args.self.now.checked.spec c.evaluate_within.new.self.checked.spec (g.B.TermBank.store c.args.self.now.heap.bank)
+    (g.B.TermBank.store c.evaluate_within.new.self.heap.bank) (g.B.TermBank.store c.evaluate_shared.new.self.heap.bank) c.args.t c.args.n
+    c.evaluate_shared.result c.evaluate_within.ensures.spec c.evaluate_within.ensures.keeps c.evaluate_shared.ensures.exact

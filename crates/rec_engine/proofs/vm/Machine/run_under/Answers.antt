@@ -1,9 +1,9 @@
 use Rattle.std.proofs.Common.{subst}
 use Rattle.rec_engine.specs.Machine.{After}
-use Rattle.rec_engine.proofs.vm.Machine.run_on.Goals as goal
+use Rattle.rec_engine.proofs.vm.Machine.run_under.Goals as goal
 
-pub run_freely-requires : goal.run_freely-requires
-run_freely-requires g c = record {
+pub run-requires : goal.run-requires
+run-requires g c = record {
   sound = c.requires.sound;
   some = (
     c.requires.some.0,
@@ -12,8 +12,8 @@ run_freely-requires g c = record {
   );
 }
 
-pub run_freely-requires-in-Tell : goal.run_freely-requires-in-Tell
-run_freely-requires-in-Tell g c = record {
+pub run-requires-in-Tell : goal.run-requires-in-Tell
+run-requires-in-Tell g c = record {
   sound = c.requires.sound;
   some = (
     c.requires.some.0,
