@@ -9,6 +9,7 @@ use crate::engine::{outcome_of, value_of};
 use crate::texts::checked_spec;
 use example_client::evaluating::{admit, engine_over};
 use rec_engine::{Engine, EngineFault, Outcome};
+use rec_sorts::Checked;
 use rx_term::{BankFault, Term, TermBank};
 use std::alloc::Global;
 use std::process::Abort;
@@ -98,6 +99,22 @@ struct Shared<B: TermBank> {
     component: Term,
 }
 
+/// Returns an engine over a store that has a term, which violates no rule.
+fn engine_for<B: TermBank + Drop>(
+    rt: &impl Abort,
+    alloc: Global,
+    checked: Checked,
+    mut bank: Box<B>,
+    term: Term,
+) -> Box<Engine<B>>
+    requires { IsSome (tree_at (B.store bank.value) term) }
+    ensures { IsGiven result.value.spec (B.store result.value.bank) term }
+{
+    admit(alloc, &checked, &mut *bank, term).expect(rt, "a term to evaluate");
+    let engine = engine_over(alloc, checked, Box::into_inner(bank)).expect(rt, "an engine");
+    Box::new(alloc, engine).expect(rt, "memory")
+}
+
 /// Returns an engine over a store that has these operators around the nested pairs.
 fn engine_with<B: TermBank + Drop>(
     rt: &impl Abort,
@@ -113,10 +130,8 @@ fn engine_with<B: TermBank + Drop>(
     let pair = paired(&mut *bank, component).expect(rt, "a pair");
     let term = applied(rt, &mut *bank, around, pair);
     assert!(rt; bank.holds(term));
-    admit(alloc, &checked, &mut *bank, term).expect(rt, "a term to evaluate");
-    let engine = engine_over(alloc, checked, Box::into_inner(bank)).expect(rt, "an engine");
     Shared {
-        engine: Box::new(alloc, engine).expect(rt, "memory"),
+        engine: engine_for(rt, alloc, checked, bank, term),
         term,
         component,
     }
