@@ -5,7 +5,7 @@ use crate::rows::streams::{Slow, bytewise, taking};
 use crate::rows::{options, push, push_often};
 use rec_run::{LimitLines, RunReport, RunSettings, TermChoice, ValueForm};
 use rec_serve::{Deaf, ServeSettings, Session, run_serve};
-use rx_run::Ending;
+use rx_run::{Ending, InputForm};
 use std::alloc::Global;
 use std::process::Abort;
 
@@ -85,6 +85,7 @@ fn expect_lines(rt: &impl Abort, alloc: Global, row: &Value) {
         sizes,
         depth: None,
         terms: TermChoice::All,
+        input: InputForm::Term,
     };
     let mut written = Vec::new(alloc);
     let mut spec = TREES.as_bytes();
@@ -142,6 +143,7 @@ fn run_doubled(rt: &impl Abort, alloc: Global, given: &str, out: &mut Vec<u8>) {
         sizes: true,
         depth: None,
         terms: TermChoice::Input,
+        input: InputForm::Term,
     };
     let mut spec = TREES.as_bytes();
     let mut terms = given.as_bytes();
