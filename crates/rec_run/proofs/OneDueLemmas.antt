@@ -44,29 +44,29 @@ one_verdict bytes (Good y) (Breaks g) (fits, text, good) (again, (z, other, spoi
 one_verdict bytes (Good y) (Good z) (fits, text, good) (again, other, kept) = ap Good (one_reading bytes y z text other)
 
 -- the verdict on the tree of given terms, by the rule that it breaks and by its elements
-tree_verdict : Option ℕ → Option (List Tree) → TermsVerdict
+abbrev tree_verdict : Option ℕ → Option (List Tree) → TermsVerdict
 tree_verdict (Some number) o = BreaksTerms number
 tree_verdict None o = GoodTerms (unwrap_or o [])
 
 -- the verdict on a tree that is no table, by the rule that it breaks and by its element
-no_table_verdict : Option ℕ → Option ℕ → TermsVerdict
+abbrev no_table_verdict : Option ℕ → Option ℕ → TermsVerdict
 no_table_verdict None o = NoTable
 no_table_verdict (Some rule) o = if nat_eq rule 1 then NoTable else NoElement (unwrap_or o 0)
 
 -- the verdict on a table, by its tree
-table_verdict : Spec → Tree → Option Tree → TermsVerdict
+abbrev table_verdict : Spec → Tree → Option Tree → TermsVerdict
 table_verdict y t (Some u) = tree_verdict (broken_by_terms y u) (elements u)
 table_verdict y t None = no_table_verdict (broken_by_table t) (broken_element t)
 
 -- the verdict on given terms, by the verdict on their text
-given_verdict : InputForm → Spec → text.Verdict → TermsVerdict
+abbrev given_verdict : InputForm → Spec → text.Verdict → TermsVerdict
 given_verdict input y text.TooLong = TooLong
 given_verdict input y (text.Outside at) = Outside at
 given_verdict form.Term y (text.Spelt t) = tree_verdict (broken_by_terms y t) (elements t)
 given_verdict form.Table y (text.Spelt t) = table_verdict y t (tree_of_table t)
 
 -- a verdict on given terms follows from one on their text
-Follows : InputForm → Spec → List ℕ → TermsVerdict → Type 0
+abbrev Follows : InputForm → Spec → List ℕ → TermsVerdict → Type 0
 Follows input y bytes v = (o : text.Verdict) × IsVerdict bytes o × (v ≡ given_verdict input y o)
 
 text_follows : (y : Spec) (bytes : List ℕ) (v : TermsVerdict) → IsTermsVerdict y bytes v → Follows form.Term y bytes v
