@@ -43,7 +43,7 @@ chosen_in input terms given due = record {
 abbrev chosen : TermChoice → List ℕ → Due → Row
 chosen = chosen_in form.Term
 
--- the given terms of a table
+-- input terms from a table
 abbrev tabled : List ℕ → Due → Row
 tabled = chosen_in form.Table Input
 
@@ -73,18 +73,18 @@ runs =
     chosen (Nth 3) (codes "[plus(s(s(z)),z){a}]") (lines (codes "!limit 2{a}\n")) ∷
     -- a given term that is not chosen breaks a rule
     chosen (Nth 1) (codes "[z,plus]") (refused (codes "!terms T5\n") None) ∷
-    -- a table whose last element is a list of terms that share one
+    -- a table of a list of two terms that share a subterm
     tabled (codes "[s(z),[plus(<0>,<0>){a},s(<0>)]]") (lines (codes "s(s(z)){a}\t2\ns(s(z))\t0\n")) ∷
-    -- a term that is no table, and a list that is one of another list
+    -- a term that is not a list, and a list with annotations
     tabled (codes "f(a)") (refused (codes "!terms R1\n") None) ∷
     tabled (codes "[z]{a}") (refused (codes "!terms R1\n") None) ∷
     -- an element that does not open
     tabled (codes "[<0>]") (refused (codes "!terms R2\n") None) ∷
     tabled (codes "[z,<1>]") (refused (codes "!terms R2\n") None) ∷
-    -- a table of a term that is no list, and of a list that breaks a rule
+    -- a table of a term that is not a list, and a table of a list that violates a rule
     tabled (codes "[z,s(<0>)]") (refused (codes "!terms T1\n") None) ∷
     tabled (codes "[z,[<0>,plus(<0>)]]") (refused (codes "!terms T5\n") None) ∷
-    -- a text outside the grammar
+    -- a syntax error
     tabled (codes "[z,") (refused (codes "!terms A\n") (Some (record { text = source.Terms; rule = named.A; at = 3 }))) ∷
     []
 

@@ -65,18 +65,18 @@ terms_by_rules (Some number) o = Some (BreaksTerms number)
 terms_by_rules None (Some ts) = Some (GoodTerms ts)
 terms_by_rules None None = None
 
--- the verdict on a tree that is no table, by the rule that it breaks and by its element
+-- the verdict on a tree that is not a table, from the rule that it violates and the element that does not open
 abbrev pub no_table_by : Option ℕ → Option ℕ → Option TermsVerdict
 no_table_by (Some (suc zero)) o = Some NoTable
 no_table_by (Some (suc (suc zero))) (Some number) = Some (NoElement number)
 no_table_by rule o = None
 
--- the verdict on a table by its tree, or else by what the rules of tables answer
+-- the verdict on a table of input terms, from its tree, or from the rule that it violates as a table
 abbrev pub table_by : Spec → Tree → Option Tree → Option TermsVerdict
 table_by y t (Some u) = terms_by_rules (broken_by_terms y u) (elements u)
 table_by y t None = no_table_by (broken_by_table t) (broken_element t)
 
--- the verdict on a tree that is read in a form
+-- the verdict on the tree of input terms that are read in this form
 abbrev pub tree_by : InputForm → Spec → Tree → Option TermsVerdict
 tree_by form.Term y t = terms_by_rules (broken_by_terms y t) (elements t)
 tree_by form.Table y t = table_by y t (tree_of_table t)

@@ -117,14 +117,14 @@ pub job_ready : (w : Store) (checked : Sourced) (r : Reading Reference) → Hold
 job_ready w checked (RefusedRun r) h = tt
 job_ready w checked (GoodRun list) h = λ x e. let same : list ≡ x = cc in subst (HoldsTerms checked.spec w) same h
 
--- a tree of terms that is no table
+-- input terms whose tree is not a table
 no_table : (y : Spec) (w : Store) (bytes : List ℕ) (t : Tree) (of : Source) (r : Reason) → IsVerdict bytes (Spelt t) → of ≡ source.Terms
     → IsTableReason t r → IsTermsRead form.Table y w bytes (RefusedRun (record { text = of; reason = r }))
 no_table y w bytes t of reason.NotTable (fits, spelt) e h = (NoTable, (fits, (t, spelt, h)), rw e refl)
 no_table y w bytes t of (reason.Element n) (fits, spelt) e h = (NoElement n, (fits, (t, spelt, h.0, h.1)), rw e refl)
 no_table y w bytes t of r is e h = absurd h
 
--- a text of terms that is not accepted
+-- input terms that are rejected before they are checked against a specification
 pub no_term : (input : InputForm) (y : Spec) (w : Store) (bytes : List ℕ) (r : Refusal) (v : text.Verdict)
     → IsReadingIn source.Terms input w (RefusedRun r) v → IsVerdict bytes v → IsTermsRead input y w bytes (RefusedRun r)
 no_term form.Term y w bytes r text.TooLong e h = (TooLong, h, e)
@@ -134,7 +134,7 @@ no_term form.Table y w bytes r text.TooLong e h = (TooLong, h, e)
 no_term form.Table y w bytes r (text.Outside at) e h = (Outside at, h, e)
 no_term form.Table y w bytes r (Spelt t) e h = no_table y w bytes t r.text r.reason h e.0 e.1
 
--- the tree of a text, and that of a table
+-- input terms that were checked: a text, and a table
 judged_text : (y : Spec) (w : Store) (bytes : List ℕ) (t : Tree) (r : Reading Reference) → IsVerdict bytes (Spelt t) → IsJudged y w t r
     → IsTermsRead form.Term y w bytes r
 judged_text y w bytes t (RefusedRun r) (fits, spelt) (number, broken, e) = (BreaksTerms number, (fits, (t, spelt, broken)), ap Some (sym e))
@@ -147,7 +147,7 @@ judged_table y w bytes t u (RefusedRun r) (fits, spelt) opens (number, broken, e
 judged_table y w bytes t u (GoodRun list) (fits, spelt) opens (kept, these) =
     (GoodTerms (given_at w list), (fits, (t, u, spelt, opens, kept, these)), refl)
 
--- a text of terms that has a tree
+-- input terms that have a tree, in either form
 pub some_term : (input : InputForm) (y : Spec) (w : Store) (bytes : List ℕ) (list : Reference) (v : text.Verdict) (r : Reading Reference)
     → IsReadingIn source.Terms input w (GoodRun list) v → IsVerdict bytes v → IfSome (tree_at w list) (λ t. IsJudged y w t r)
     → IsTermsRead input y w bytes r

@@ -43,29 +43,29 @@ one_verdict bytes (Good y) (Grammar b) (fits, text, good) (again, k) = absurd (n
 one_verdict bytes (Good y) (Breaks g) (fits, text, good) (again, (z, other, spoilt)) = absurd (cc (good, ap fault (one_reading bytes y z text other), spoilt))
 one_verdict bytes (Good y) (Good z) (fits, text, good) (again, other, kept) = ap Good (one_reading bytes y z text other)
 
--- the verdict on the tree of given terms, by the rule that it breaks and by its elements
+-- the verdict on the tree of input terms, from the rule that it violates and from its elements
 abbrev tree_verdict : Option ℕ → Option (List Tree) → TermsVerdict
 tree_verdict (Some number) o = BreaksTerms number
 tree_verdict None o = GoodTerms (unwrap_or o [])
 
--- the verdict on a tree that is no table, by the rule that it breaks and by its element
+-- the verdict on a tree that is not a table, from the rule that it violates and the element that does not open
 abbrev no_table_verdict : Option ℕ → Option ℕ → TermsVerdict
 no_table_verdict None o = NoTable
 no_table_verdict (Some rule) o = if nat_eq rule 1 then NoTable else NoElement (unwrap_or o 0)
 
--- the verdict on a table, by its tree
+-- the verdict on a table of input terms, from its tree
 abbrev table_verdict : Spec → Tree → Option Tree → TermsVerdict
 table_verdict y t (Some u) = tree_verdict (broken_by_terms y u) (elements u)
 table_verdict y t None = no_table_verdict (broken_by_table t) (broken_element t)
 
--- the verdict on given terms, by the verdict on their text
+-- the verdict on input terms, from the verdict on their text
 abbrev given_verdict : InputForm → Spec → text.Verdict → TermsVerdict
 given_verdict input y text.TooLong = TooLong
 given_verdict input y (text.Outside at) = Outside at
 given_verdict form.Term y (text.Spelt t) = tree_verdict (broken_by_terms y t) (elements t)
 given_verdict form.Table y (text.Spelt t) = table_verdict y t (tree_of_table t)
 
--- a verdict on given terms follows from one on their text
+-- Follows input y bytes v: the verdict `v` on input terms follows from a verdict on their text
 abbrev Follows : InputForm → Spec → List ℕ → TermsVerdict → Type 0
 Follows input y bytes v = (o : text.Verdict) × IsVerdict bytes o × (v ≡ given_verdict input y o)
 
@@ -91,7 +91,7 @@ given_follows : (input : InputForm) (y : Spec) (bytes : List ℕ) (v : TermsVerd
 given_follows form.Term y bytes v h = text_follows y bytes v h
 given_follows form.Table y bytes v h = table_follows y bytes v h
 
--- given terms have one verdict at most
+-- input terms have at most one verdict
 pub one_given_verdict : (input : InputForm) (y : Spec) (bytes : List ℕ) (v w : TermsVerdict) → IsGivenVerdict input y bytes v
     → IsGivenVerdict input y bytes w → v ≡ w
 one_given_verdict input y bytes v w h k =
