@@ -18,7 +18,7 @@ use Rattle.rx_run.specs.Due.{Due, done, refused, steps_text}
 use Rattle.rx_run.specs.declared.ending.Source.TheVariants as source
 use Rattle.rx_run.specs.declared.ending.Named.TheVariants as named
 use Rattle.rx_run.specs.declared.term.reading.InputForm.{InputForm}
-use Rattle.rx_run.specs.declared.term.reading.InputForm.TheVariants as form
+use Rattle.rx_run.specs.declared.term.reading.InputForm.TheVariants as input_form
 use Rattle.rec_run.specs.declared.options.LimitLines.{LimitLines}
 use Rattle.rec_run.specs.declared.options.LimitLines.TheVariants.{Bare, Annotated}
 use Rattle.rec_run.specs.declared.options.RunSettings.{RunSettings}
@@ -53,7 +53,7 @@ shown_by count limits form = record {
   limits = limits;
   form = form;
   terms = All;
-  input = form.Term;
+  input = input_form.Term;
 }
 
 -- bare count: limit lines without annotations and values of any length, for all terms
@@ -188,8 +188,8 @@ counts_of terms y given form n = record {
 abbrev pub given_limits : Spec → ValueForm → ℕ → List Tree → ℕ
 given_limits y form n us = count_by (λ u. is_limited y form n (given_task u)) us
 
--- TermsVerdict: a text of input terms is too long, has a syntax error at an offset, is not a table, is
--- a table with an element that does not open, violates a rule, or is accepted with these terms
+-- TermsVerdict: a text of input terms is too long, has a syntax error at an offset, is not a table,
+-- is a table with an element that does not open, violates a rule, or is accepted with these terms
 pub data TermsVerdict : Type 0 where
   TooLong : TermsVerdict
   Outside : (at : ℕ) → TermsVerdict
@@ -228,8 +228,8 @@ IsTableVerdict y bytes (GoodTerms ts) = Fits bytes
 
 -- IsGivenVerdict input y bytes v: `v` is the verdict on input terms that are read in this form
 abbrev pub IsGivenVerdict : InputForm → Spec → List ℕ → TermsVerdict → Type 0
-IsGivenVerdict form.Term = IsTermsVerdict
-IsGivenVerdict form.Table = IsTableVerdict
+IsGivenVerdict input_form.Term = IsTermsVerdict
+IsGivenVerdict input_form.Table = IsTableVerdict
 
 -- due_of_spec shown n v: the specified output after the verdict on a specification without input
 -- terms

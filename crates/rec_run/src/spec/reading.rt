@@ -1,13 +1,12 @@
 //! Reads the texts of a run: a specification, and input terms.
 
-ghost use Rattle.std.specs.Prelude.{◌≡◌, ◌≤◌, ℕ, List, IfOk, IfErr, IfSome, IsSome};
+ghost use Rattle.std.specs.Prelude.{◌≡◌, ◌≤◌, IfOk, IfErr, IfSome, IsSome};
 ghost use Rattle.std.specs.Prelude.{OnOk, length, option_map};
 ghost use Rattle.rx_term.specs.Steps.{Grows};
 ghost use Rattle.rx_term.specs.Store.{Store, tree_at};
-ghost use Rattle.rx_text.specs.Grammar.{Spells};
 ghost use Rattle.rx_text.specs.Input.{IsSameInput, remaining_in};
 ghost use Rattle.rec_syntax.specs.Grammar.{SpecText};
-ghost use Rattle.rec_sorts.specs.SpecRules.{Fits, Verdict};
+ghost use Rattle.rec_sorts.specs.SpecRules.{Verdict};
 ghost use Rattle.rec_run.specs.Reading.{IsGood, IsSpecRead, IsSpecReading, KeepsText};
 ghost use Rattle.rx_run.specs.Run.{IsReadOut, RanOut, StopsReading, StopsUnwritten};
 ghost use Rattle.rx_run.specs.Streams.{ReportsRead};
@@ -17,6 +16,7 @@ ghost use Rattle.rec_run.specs.GivenTerms.{
   HoldsList,
   IsJobAfter,
   IsJobRead,
+  IsJudged,
   IsReady,
   IsRefusal,
   IsTermsRead,
