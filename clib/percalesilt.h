@@ -359,10 +359,15 @@ psilt_code psilt_spec_free(psilt *p);
 /* The value of a term, and the number of its steps. PSILT_UNSPECIFIED; PSILT_STALE; PSILT_RULE if the term violates a
  * rule of terms: it holds an integer, a list or a placeholder, a node below its root has annotations, a name is not
  * declared, or is with other arguments; PSILT_LIMIT if it needs more than steps steps, or has no value;
- * PSILT_INTERRUPTED if it was stopped, as psilt_interrupt says; PSILT_NOMEM; PSILT_FULL if no cell is left after a collection: for the list of the term alone, up to two cells, by which the rules
- * are checked; or for the evaluation, after the table of results was emptied too. Evaluation frees what neither a
- * protected term nor it itself needs. The given term stays in any case, and the value until the next call that
- * evaluates or reclaims, unless it is protected. Adds no name. */
+ * PSILT_INTERRUPTED if it was stopped, as psilt_interrupt says; PSILT_NOMEM; PSILT_FULL if no cell is left after a
+ * collection: for the list of the term alone, up to two cells, by which the rules are checked; or for the evaluation,
+ * after the table of results was emptied too. Evaluation frees what neither a protected term nor it itself needs. The
+ * given term stays in any case, and the value until the next call that evaluates or reclaims, unless it is protected.
+ * Adds no name.
+ *
+ * The rules are checked once for each different subterm. Evaluation takes each occurrence of a subterm by itself, but
+ * if there are more than 1,048,576: then arguments in which no symbol has rules are taken as they are, and a term with
+ * others is PSILT_NOMEM if it has more than 4,294,967,295 occurrences. */
 psilt_code psilt_normalise(psilt *p, psilt_term term, uint64_t steps, psilt_term *value,
                            uint64_t *taken);
 

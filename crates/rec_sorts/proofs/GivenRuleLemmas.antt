@@ -8,6 +8,9 @@ use Rattle.std.specs.List.{list_any}
 use Rattle.std.specs.Option.{option_eq, option_map, option_and_then}
 use Rattle.rx_term.specs.Tree.{Tree, Trees, Int, Appl, Items, Hole, none, more, list_of, to_list, count_of, items_of}
 use Rattle.rx_term.specs.Name.{plain_name}
+use Rattle.rx_term.specs.Store.{Store}
+use Rattle.rx_term.specs.Walks.{held_trees}
+use Rattle.rx_term.specs.declared.Term.{Term as Reference}
 use Rattle.rec_syntax.specs.Tokens.{Word}
 use Rattle.rec_syntax.specs.Syntax.{Declaration, Spec}
 use Rattle.rec_sorts.specs.Lookup.{symbols, symbol, variable_words, same_sort}
@@ -20,9 +23,11 @@ use Rattle.rec_sorts.specs.Declaring.{sort_numbers}
 use Rattle.rec_sorts.specs.Scope.{meaning_of, sort_at, arguments_at}
 use Rattle.rec_sorts.specs.Agreeing.{IsScope}
 use Rattle.rec_sorts.specs.Walking.{unstacked}
-use Rattle.rec_sorts.specs.Inner.GivenTerms.{symbol_alone, symbol_at, is_nameless, is_misfilled, are_misfits, has_misfit, broken_by_nodes}
+use Rattle.rec_sorts.specs.Inner.GivenTerms.{symbol_alone, symbol_at, is_nameless, is_misfilled, are_misfits, has_misfit, broken_by_nodes, broken_by_all}
 use Rattle.rec_sorts.specs.declared.letters.Meaning.{Meaning}
 use Rattle.rec_sorts.specs.declared.letters.Meaning.TheVariants.{Symbol, Variable}
+use Rattle.rec_sorts.specs.ListNodes.{AreNodes}
+use Rattle.rec_sorts.specs.declared.walk.ListNodes.{ListNodes}
 use Rattle.rec_sorts.specs.declared.scope.Scope.{Scope}
 use Rattle.rec_sorts.proofs.KeptLemmas.{all_kept}
 use Rattle.rec_sorts.proofs.MeaningLemmas.{meaning-symbol, meaning-variable, sort_at-name, sort_by, arguments_at-name, arguments_by}
@@ -197,6 +202,19 @@ module _ (y : Spec) (s : Scope) (h : IsScope y s) where
   broken-list kept (Int z anns) all inner e p q = absurd (cc e)
   broken-list kept (Appl name quoted args anns) all inner e p q = absurd (cc e)
   broken-list kept (Hole held anns) all inner e p q = absurd (cc e)
+
+-- the rules 2 to 6 do not depend on the order of subterms, nor on how often each is visited
+pub broken-found : (s : Scope) (w : Store) (ts : List Tree) (found : ListNodes) (all inner : List Reference) → all ≡ found.all.items
+    → inner ≡ found.inner.items → AreNodes w ts found → broken_by_nodes s (held_trees w all) (held_trees w inner) ≡ broken_by_all s ts
+broken-found s w ts found all inner e f n =
+    let at_all = (λ (p : Tree → Bool). ap (λ rs. list_any p (held_trees w rs)) e ∙ n.all_found p) in
+    let at_inner = (λ (p : Tree → Bool). ap (λ rs. list_any p (held_trees w rs)) f ∙ n.inner_found p) in
+    let one = at_all is_no_application in
+    let two = at_inner is_annotated in
+    let three = at_all (is_nameless s) in
+    let four = at_all (is_misfilled s) in
+    let five = at_all (has_misfit s) in
+    λ i. first_passed 2 (one i ∷ two i ∷ three i ∷ four i ∷ five i ∷ [])
 
 -- what holds of the tree of a reference
 pub if_held : (P : Tree → Type 0) (o : Option Tree) → P (unwrap_or o (list_of none)) → IfSome o P

@@ -28,6 +28,7 @@ pub mod DeclaringLemmas
 pub mod NamesThereLemmas
 pub mod ExaminingLemmas
 pub mod WalkedLemmas
+pub mod VisitLemmas
 pub mod GivenRuleLemmas
 pub mod FirstBrokenLemmas
 pub mod GivenLetterLemmas

@@ -317,8 +317,10 @@ fn broken_rule<B: TermBank>(
 }
 
 /// Checks a list of input terms against the rules T1 to T6. Returns `Rule` with the number of the
-/// lowest-numbered violated rule, or `Memory` if an allocation failed. The store is only read.
-/// Takes time linear in the size of the terms as trees.
+/// lowest-numbered violated rule, or `Memory` if an allocation failed. The store is only read. A
+/// shared argument is visited once: takes expected time linear in the length of the list and in the
+/// number of different subterms, with their arguments and the lengths of their names, and memory for
+/// a set of these subterms.
 pub fn check_terms<B: TermBank>(
     alloc: Global,
     checked: &Checked,
@@ -340,7 +342,8 @@ pub fn check_terms<B: TermBank>(
 
 /// Returns the index, from 0, of the first input term that on its own violates the rule that the
 /// list violates. Returns `None` if no rule is violated, or if the term is not a list without
-/// annotations. Takes time linear in the size of the terms as trees.
+/// annotations. Takes the time of `check_terms` for the list, and then for each term on its own, up
+/// to the first that violates the rule.
 pub fn broken_element<B: TermBank>(
     alloc: Global,
     checked: &Checked,

@@ -6,12 +6,13 @@ ghost use Rattle.rx_term.specs.Store.{tree_at};
 ghost use Rattle.rx_term.specs.Walks.{AllHeld, held_tree, held_trees};
 ghost use Rattle.rec_sorts.specs.TermRules.{arguments};
 ghost use Rattle.rec_sorts.specs.ListNodes.{AreNodes};
-ghost use Rattle.rec_sorts.specs.Walking.{backwards, unstacked};
+ghost use Rattle.rec_sorts.specs.Walking.{AreDifferent, SameTrees, backwards, unstacked};
 
 use rx_term::{Kind, Term, TermBank};
 use std::alloc::{AllocError, Global};
+use std::collections::HashSet;
 
-/// All subterms of a list's items, and those of them that are not items themselves.
+/// The subterms of some terms, and the subterms of their arguments.
 #[derive(Drop)]
 pub struct ListNodes {
     pub all: Vec<Term>,
@@ -115,7 +116,33 @@ pub fn term_nodes<B: TermBank>(alloc: Global, bank: &B, term: Term) -> Result<Ve
     nodes(alloc, bank, stack)
 }
 
-/// Returns all subterms of some terms, and the subterms of their arguments.
+/// Returns the different subterms of the terms on a stack, each of them once.
+fn distinct_nodes<B: TermBank>(
+    alloc: Global,
+    bank: &B,
+    mut stack: Vec<Term>,
+) -> Result<Vec<Term>, AllocError>
+    requires { AllHeld (B.store bank.now) stack.items }
+    ensures held { IfOk result (λ v. AllHeld (B.store bank.now) v.items) }
+    ensures same { IfOk result (λ v. SameTrees (held_trees (B.store bank.now) v.items) (unstacked
+        (held_trees (B.store bank.now) stack.items))) }
+    ensures distinct { IfOk result (λ v. AreDifferent v.items) }
+{
+    let mut found = Vec::new(alloc);
+    let mut visited = HashSet::new(alloc);
+    while let Some(term) = stack.pop() {
+        let is_new = visited.insert(term.0)?;
+        if !is_new {
+            continue;
+        }
+        found.push(term)?;
+        push_arguments(bank, term, &mut stack)?;
+    }
+    Ok(found)
+}
+
+/// Returns the subterms of some terms, and the subterms of their arguments. Each different subterm of
+/// an argument is visited once.
 pub fn nodes_among<B: TermBank>(
     alloc: Global,
     bank: &B,
@@ -126,12 +153,13 @@ pub fn nodes_among<B: TermBank>(
         (AreNodes (B.store bank.now) (held_trees (B.store bank.now) terms.items)) }
 {
     let below = arguments(alloc, bank, &terms)?;
-    let inner = nodes(alloc, bank, below)?;
-    let all = nodes(alloc, bank, terms)?;
+    let inner = distinct_nodes(alloc, bank, below)?;
+    let mut all = terms;
+    all.extend_from_slice(&inner)?;
     Ok(ListNodes { all, inner })
 }
 
-/// Returns all subterms of a list's items, and the subterms of their arguments.
+/// Returns the subterms of a list's items, and the subterms of their arguments.
 pub fn list_nodes<B: TermBank>(alloc: Global, bank: &B, list: Term) -> Result<ListNodes, AllocError>
     requires { IsSome (tree_at (B.store bank.now) list) }
     ensures { IfOk result

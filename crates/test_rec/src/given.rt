@@ -1,9 +1,12 @@
 //! Tests of the well-formedness rules of input terms, and of their postfix items.
 
+ghost use Rattle.std.specs.Prelude.{IsSome};
+ghost use Rattle.rx_term.specs.Store.{tree_at};
+
 use crate::banks::{plain_box, term_of};
 use crate::texts::{ADD, Nest, Q, checked_box, expect};
 use rec_sorts::{Checked, Letter, Meaning, TermsFault, broken_element, check_terms, term_letters};
-use rx_term::TermBank;
+use rx_term::{BankFault, Term, TermBank};
 use std::alloc::Global;
 use std::process::Abort;
 
@@ -73,8 +76,24 @@ const DEEP: Nest = Nest {
     depth: 2000,
 };
 
-/// Returns the number of the rule that input terms violate, in this store. The number 0 means out
-/// of memory.
+/// Returns the number of the rule that the input terms of a list violate. The number 0 means out of
+/// memory.
+fn broken_list<B: TermBank>(
+    rt: &impl Abort,
+    alloc: Global,
+    checked: &Checked,
+    bank: &B,
+    list: Term,
+) -> Option<u8> {
+    assert!(rt; bank.holds(list));
+    match check_terms(alloc, checked, bank, list) {
+        Ok(()) => None,
+        Err(TermsFault::Rule { number }) => Some(number),
+        Err(TermsFault::Memory) => Some(0),
+    }
+}
+
+/// Returns the number of the rule that input terms violate, in this store.
 fn broken_in<B: TermBank>(
     rt: &impl Abort,
     alloc: Global,
@@ -83,12 +102,7 @@ fn broken_in<B: TermBank>(
     terms: &[u8],
 ) -> Option<u8> {
     let list = term_of(rt, alloc, bank, terms);
-    assert!(rt; bank.holds(list));
-    match check_terms(alloc, checked, bank, list) {
-        Ok(()) => None,
-        Err(TermsFault::Rule { number }) => Some(number),
-        Err(TermsFault::Memory) => Some(0),
-    }
+    broken_list(rt, alloc, checked, bank, list)
 }
 
 /// Returns the number of the rule that input terms violate, in a new store.
@@ -122,10 +136,53 @@ fn broken_rules(rt: HostRuntime) {
     expect_rows(&rt, rt.alloc(), &KEPT);
 }
 
+/// Makes the sum of a term and itself.
+#[tactic(auto, using(rx_term::proofs::StoreLemmas::bank_steps))]
+fn doubled<B: TermBank>(bank: &mut B, term: Term) -> Result<Term, BankFault>
+    requires { IsSome (tree_at (B.store bank.old) term) }
+{
+    let nil = bank.nil()?;
+    let last = bank.cons(term, nil)?;
+    let both = bank.cons(term, last)?;
+    let plus = bank.symbol(b"plus", false, 2)?;
+    bank.appl(plus, both)
+}
+
+/// Makes the list of one term.
+#[tactic(auto, using(rx_term::proofs::StoreLemmas::bank_steps))]
+fn only<B: TermBank>(bank: &mut B, term: Term) -> Result<Term, BankFault>
+    requires { IsSome (tree_at (B.store bank.old) term) }
+{
+    let nil = bank.nil()?;
+    bank.cons(term, nil)
+}
+
+/// Returns a list of one term: 200 nested sums, each of a term and itself. The innermost term
+/// occurs 2^200 times.
+fn shared_sums<B: TermBank>(rt: &impl Abort, alloc: Global, bank: &mut B, inner: &str) -> Term {
+    let mut term = term_of(rt, alloc, bank, inner.as_bytes());
+    for _ in 0..200 {
+        assert!(rt; bank.holds(term));
+        term = doubled(bank, term).expect(rt, "a sum");
+    }
+    assert!(rt; bank.holds(term));
+    only(bank, term).expect(rt, "a list")
+}
+
+/// Returns the number of the rule that these sums violate.
+fn broken_sums(rt: &impl Abort, alloc: Global, inner: &str) -> Option<u8> {
+    let checked = checked_box(rt, alloc, ADD.as_bytes());
+    let bank = &mut *plain_box(rt, alloc, 10_000);
+    let list = shared_sums(rt, alloc, bank, inner);
+    broken_list(rt, alloc, &checked, bank, list)
+}
+
 #[test]
 fn deep(rt: HostRuntime) {
     let terms = DEEP.text(&rt, rt.alloc());
     assert!(rt; broken_beside(&rt, rt.alloc(), Q, &terms) == None);
+    assert!(rt; broken_sums(&rt, rt.alloc(), "z") == None);
+    assert!(rt; broken_sums(&rt, rt.alloc(), "q") == Some(4));
 }
 
 /// Returns the index of the first term that alone violates the rule that the list violates.
