@@ -140,9 +140,6 @@ const WRONG_OTHERS: &[&[&str]] = &[
     &["help", "S12"],
 ];
 
-/// All arguments that are usage errors.
-const WRONG_WORDS: [&[&[&str]]; 3] = [WRONG_EVAL, WRONG_TRACE, WRONG_OTHERS];
-
 /// Checks that these arguments are a usage error, and that nothing is written on standard output.
 fn refuses<H: Abort + Files>(rt: &H, alloc: Global, words: &[&str]) {
     let ran = run(rt, alloc, words, ADDITION);
@@ -206,8 +203,16 @@ fn refuses_what_is_not_there(rt: HostRuntime) {
 }
 
 #[test]
-fn refuses_words(rt: HostRuntime) {
-    for rows in &WRONG_WORDS {
-        all_refuse(&rt, rt.alloc(), rows);
-    }
+fn refuses_words_of_eval(rt: HostRuntime) {
+    all_refuse(&rt, rt.alloc(), WRONG_EVAL);
+}
+
+#[test]
+fn refuses_words_of_trace_and_serve(rt: HostRuntime) {
+    all_refuse(&rt, rt.alloc(), WRONG_TRACE);
+}
+
+#[test]
+fn refuses_words_of_others(rt: HostRuntime) {
+    all_refuse(&rt, rt.alloc(), WRONG_OTHERS);
 }
