@@ -22,6 +22,7 @@ complete -c recw -n "$first; or $help" -a help -d 'Print this message or the hel
 complete -c recw -n $help -a refusals -d 'Print the error codes and their meanings'
 complete -c recw -n '__fish_seen_subcommand_from eval serve trace aterm share match check uses join' -F
 complete -c recw -n '__fish_seen_subcommand_from eval' -s e -l input -x -d 'Input term instead of TERMS; may be repeated'
+complete -c recw -n '__fish_seen_subcommand_from eval' -l terms-table -d 'Read TERMS as a table'
 complete -c recw -n '__fish_seen_subcommand_from eval' -l only-terms -d 'Evaluate input terms only, not the EVAL terms'
 complete -c recw -n '__fish_seen_subcommand_from eval' -l term -x -d 'Evaluate only the N-th term, 1 to 10^18'
 complete -c recw -n '__fish_seen_subcommand_from eval' -l join -r -d 'Specification to join before SPEC; may be repeated'

@@ -142,7 +142,7 @@ def option_of(argument):
             choices = tuple(given.get("names", ()))
         elif name == "Input":
             value, short, repeats = "TERM", "-e", True
-        elif name == "FlagWithout":
+        elif name in ("FlagWithout", "FlagBeside"):
             pass
         elif name == "Files":
             value, repeats = given, True

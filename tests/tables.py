@@ -2,11 +2,13 @@
 """Compares the tables of `recw` with a second description of tables: tables.py [PROGRAM].
 
 Here a term is a tree, a part of it is known by its text, and a table is written and read by recursion. The terms and
-tables are random, 20,000 in all; a quarter of the tables are wrong. `eval` gets many terms at a time, each other
-command is run over many files by one shell. At the end come terms that are far larger than their tables.
+tables are random, 20,000 in all; a quarter of the tables are wrong. `eval` gets many terms at a time, as a text and as
+a table; each other command is run over many files by one shell. At the end come terms that are far larger than their
+tables.
 """
 
 import random
+import re
 import subprocess
 import tempfile
 import time
@@ -25,6 +27,8 @@ COUNTS = {
     ("share", "--from-table", "--to-table"): 2000,
 }
 RUNS, TERMS = 40, 200
+# How many tables of input terms are tried.
+GIVEN = 1000
 # Names as they are printed, some of which are longer than a number of an element.
 NAMES = ["a", "f", "pair", "longer-name.x", "seven_7", "nine_byte", '"f"', '"q\\"\\\\\\n"', '"\\377\\000"', '""', ""]
 INTEGERS = [0, 1, -1, 7, 12345678, 123456789, 2147483647, -2147483648]
@@ -280,6 +284,42 @@ def compare_values(chance, folder):
         for it, line in zip(given, found.splitlines()):
             check(f"value {it.text}", table(it), line)
         check(f"values {run}: lines", len(given), found.count("\n"))
+        tables = write_file(f"{folder}/values.tab", table(Tree("list", "", given)))
+        check(f"values {run}: of a table", (0, found, ""), recw("eval", "--terms-table", "--to-table", spec, tables))
+
+
+def compare_given(chance, folder):
+    """Compares input terms in tables, some of them wrong, with the text of the list that the table gives."""
+    spec = write_file(f"{folder}/double.rec", DOUBLE)
+    texts, lists = [], []
+    while len(texts) < GIVEN:
+        tree = table_tree(chance) if chance.random() < 0.5 else table_of_values(chance)
+        try:
+            given = term_of(tree).text
+        except Wrong as fault:
+            given = str(fault)
+        if len(given) < 5000:
+            texts.append(tree.text)
+            lists.append(given)
+    with room() as tables, room() as plain:
+        found = outcomes(tables, ("eval", "--terms-table", spec), texts)
+        wanted = outcomes(plain, ("eval", spec), lists)
+    for text, given, one, other in zip(texts, lists, found, wanted, strict=True):
+        check(f"terms {text}", (f"!terms {given}\n", "1") if given in ("R1", "R2") else other, one)
+
+
+def outcomes(folder, words, texts):
+    """The lines and the status of a command for each of these texts."""
+    return re.findall(r"((?:.*\n)*?)status (\d)\n", run_files(folder, words, texts))
+
+
+def table_of_values(chance):
+    """A table of a list of calls and values of the specification above."""
+    elements = [Tree("application", "leaf")]
+    for _ in range(chance.randrange(4)):
+        elements.append(Tree("application", "node", [number_of(chance, len(elements)) for _ in range(2)]))
+    calls = [Tree("application", "twice", [number_of(chance, len(elements))]) for _ in range(chance.randrange(3))]
+    return Tree("list", "", [*elements, Tree("list", "", [number_of(chance, len(elements)), *calls])])
 
 
 # ---- hard cases
@@ -302,6 +342,10 @@ def compare_large(folder):
         check(f"2^{height} leaves: text", (0, f"!bytes {LONGEST}\n", ""), recw("aterm", "--from-table", file))
         call = f"d({'s(' * height}z{')' * height})"
         check(f"2^{height} leaves: value", (0, f"{wanted}\n", ""), recw("eval", "--to-table", "-e", call, spec))
+        given = write_file(f"{folder}/given", f"{doubling('leaf', height)[:-1]},[<{height}>,twice(<{height}>)]]")
+        twice = doubling("node(leaf,leaf)", height)
+        found = recw("eval", "--terms-table", "--to-table", spec, given)
+        check(f"2^{height} leaves: input terms", (0, f"{wanted}\n{twice}\n", ""), found)
     many = f"[pair(a,b),f({','.join(['<0>'] * 1_000_000)})]"
     file = write_file(f"{folder}/many", many)
     check_long("a million references", (0, f"{many}\n", ""), recw("aterm", "--from-table", "--to-table", file))
@@ -311,11 +355,14 @@ def compare_large(folder):
 
 def compare_refused(folder):
     """Compares texts that are rejected, and a text that is too long."""
+    spec = write_file(f"{folder}/double.rec", DOUBLE)
     for code, texts in REFUSED.items():
         for words in COUNTS:
             if "--from-table" in words:
                 found = run_files(folder, words, texts)
                 check(f"{' '.join(words)}: {code}", f"!term {code}\nstatus 1\n" * len(texts), found)
+        found = run_files(folder, ("eval", "--terms-table", spec), texts)
+        check(f"eval --terms-table: {code}", f"!terms {code}\nstatus 1\n" * len(texts), found)
     long = write_file(f"{folder}/long", f"[{' ' * LONGEST}a]")
     check("a long text", (1, "!term L1\n", ""), recw("aterm", "--from-table", long))
 
@@ -327,6 +374,7 @@ def main():
         rejected += compare_files(chance, words, count)
     with tempfile.TemporaryDirectory() as folder:
         compare_values(chance, folder)
+        compare_given(chance, folder)
         compare_large(folder)
         compare_refused(folder)
     print(f"tables.py: {passed()} of {len(TRIED)} as wanted, {dict(rejected)}, {time.monotonic() - begin:.0f} s")

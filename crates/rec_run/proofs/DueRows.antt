@@ -8,7 +8,8 @@ use Rattle.rec_sorts.specs.SpecRules.{fault, Long, Grammar, Breaks, Good, Fits, 
 use Rattle.rec_sorts.specs.TermRules.{broken_by_terms, elements}
 use Rattle.rec_sorts.specs.Evaluation.{Eval}
 use Rattle.rx_run.specs.Due.{Due}
-use Rattle.rec_run.specs.Output.{bare, due_of_spec, due_of_terms, TooLong, Outside, BreaksTerms, GoodTerms, IsTermsVerdict, IsDueAfter}
+use Rattle.rec_run.specs.Output.{bare, due_of_spec, due_of_terms, TooLong, Outside, NoTable, NoElement, BreaksTerms, GoodTerms}
+use Rattle.rec_run.specs.Output.{IsDueAfter, IsTableVerdict, IsTermsVerdict}
 use Rattle.rx_run.specs.declared.ending.Finish.{Finish}
 use Rattle.rx_run.specs.declared.ending.Finish.TheVariants.{Done, Refused}
 use Rattle.rx_run.specs.declared.ending.Source.TheVariants as source
@@ -39,6 +40,12 @@ long_terms = refl
 
 terms_outside : due_of_terms q (bare true) 7 (Outside 4) ≡ due Refused (codes "!terms A\n") (Some (record { text = source.Terms; rule = named.A; at = 4 }))
 terms_outside = refl
+
+no_table : due_of_terms q (bare true) 7 NoTable ≡ due Refused (codes "!terms R1\n") None
+no_table = refl
+
+broken_element : due_of_terms q (bare true) 7 (NoElement 2) ≡ due Refused (codes "!terms R2\n") None
+broken_element = refl
 
 broken_terms : due_of_terms q (bare true) 7 (BreaksTerms 2) ≡ due Refused (codes "!terms T2\n") None
 unfolding digits
@@ -83,6 +90,9 @@ not_long_at_the_limit bytes e h = omega (arith, e, h)
 
 terms_long_past_the_limit : (y : Spec) (bytes : List ℕ) → length bytes ≡ 16777217 → IsTermsVerdict y bytes TooLong
 terms_long_past_the_limit y bytes e = omega (arith, e)
+
+table_long_past_the_limit : (y : Spec) (bytes : List ℕ) → length bytes ≡ 16777217 → IsTableVerdict y bytes TooLong
+table_long_past_the_limit y bytes e = omega (arith, e)
 
 terms_not_long_at_the_limit : (y : Spec) (bytes : List ℕ) → length bytes ≡ 16777216 → IsTermsVerdict y bytes TooLong → ⊥
 terms_not_long_at_the_limit y bytes e h = omega (arith, e, h)

@@ -4,7 +4,7 @@ use Rattle.std.proofs.Common.{Option, Some, None, get_or, drop, length, refl, sy
 use Rattle.std.specs.Prelude.{All, unwrap_or}
 use Rattle.std.specs.List.{list_any}
 use Rattle.std.proofs.lemmas.List.Folds.{list_any-append}
-use Rattle.rx_term.specs.Tree.{Tree, Trees, Int, Appl, Items, Hole, none, more, annotations, is_i32, is_tree, are_trees, from_list, to_list, list_of}
+use Rattle.rx_term.specs.Tree.{Tree, Int, Appl, Items, Hole, none, more, annotations, is_i32, is_tree, are_trees, from_list, to_list, list_of}
 use Rattle.rx_term.specs.Name.{is_name}
 use Rattle.rx_term.specs.Store.{Store, tree_at}
 use Rattle.rx_term.specs.declared.Term.{Term as Reference}

@@ -7,6 +7,7 @@ use Rattle.rx_term.specs.Tree.{Tree, Int, Appl, Items, Hole, none, more}
 use Rattle.rec_sorts.specs.TermRules.{broken_by_terms}
 use Rattle.std.specs.Fmt.{digits}
 use Rattle.rec_sorts.specs.Evaluation.{Eval}
+use Rattle.rx_run.specs.declared.term.reading.InputForm.TheVariants as form
 use Rattle.rec_run.specs.Output.{bare, each_line, shown_by, value_line}
 use Rattle.rec_run.specs.declared.options.LimitLines.TheVariants.{Annotated, Bare}
 use Rattle.rec_run.specs.declared.options.TermChoice.TheVariants.{All}
@@ -287,7 +288,7 @@ leaf = Appl (codes "leaf") false none none
 abbrev node : Tree → Tree
 node t = Appl (codes "node") false (more t (more t none)) none
 
-tabled : value_line (record { count = true; sizes = true; limits = Bare; form = Table; terms = All }) none 3 (node (node leaf))
+tabled : value_line (record { count = true; sizes = true; limits = Bare; form = Table; terms = All; input = form.Term }) none 3 (node (node leaf))
     ≡ codes "[node(leaf,leaf),node(<0>,<0>)]\t3\t8"
 unfolding digits
 tabled = refl

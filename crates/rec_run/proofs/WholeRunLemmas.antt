@@ -24,10 +24,10 @@ pub one_due_for : (shown : Shown) (n : ℕ) (texts : Texts) (d e : Due) → IsDu
 one_due_for shown n texts d e h k = one_due texts.spec texts.terms shown n d e h k
 
 -- what the texts came to says what is due for them
-pub due_for : (w : Store) (shown : Shown) (n : ℕ) (texts : Option Texts) (r : Reading Job) → IfSome texts (λ t. IsReadFrom w t r)
+pub due_for : (w : Store) (shown : Shown) (n : ℕ) (texts : Option Texts) (r : Reading Job) → IfSome texts (λ t. IsReadFrom shown.input w t r)
     → IfSome texts (λ t. IsDueFor shown n t (run_due w shown n r))
 due_for w shown n None r h = tt
-due_for w shown n (Some t) r h = h shown n
+due_for w shown n (Some t) r h = h shown n refl
 
 -- ---- the text of a specification
 

@@ -10,14 +10,14 @@ use Rattle.rec_syntax.specs.Syntax as syntax
 use Rattle.rec_syntax.specs.Syntax.{Sourced}
 use Rattle.rec_sorts.specs.SpecRules as verdict
 use Rattle.rec_sorts.specs.SpecRules.{Verdict}
-use Rattle.rec_sorts.specs.TermRules.{broken_by_elements, elements}
+use Rattle.rec_sorts.specs.TermRules.{broken_by_elements, broken_by_terms, elements}
 use Rattle.rec_sorts.specs.Evaluation.{Eval, term_of}
 use Rattle.rec_sorts.specs.declared.fault.TermsFault.{TermsFault}
 use Rattle.rec_sorts.specs.declared.fault.TermsFault.TheVariants as rule
 use Rattle.rx_run.specs.Due.{Due, done}
 use Rattle.rec_run.specs.Output.{Shown, IsDueAfter, lines}
-use Rattle.rec_run.specs.Output.{TermsVerdict, TooLong, Outside, BreaksTerms, GoodTerms}
-use Rattle.rec_run.specs.Output.{IsTermsVerdict}
+use Rattle.rec_run.specs.Output.{TermsVerdict, TooLong, Outside, NoTable, NoElement, BreaksTerms}
+use Rattle.rec_run.specs.Output.{GoodTerms, IsGivenVerdict}
 use Rattle.rec_run.specs.Reading.{IsSpecRead, KeepsText, evaluation_text}
 use Rattle.rx_run.specs.Refusals.{reading_due}
 use Rattle.rec_run.specs.Run.{HasRoom, IsDueFor, Texts}
@@ -28,6 +28,7 @@ use Rattle.rx_run.specs.declared.refusal.Reading.{Reading}
 use Rattle.rx_run.specs.declared.refusal.Reading.TheVariants as reading
 use Rattle.rx_run.specs.declared.refusal.Reason.TheVariants as reason
 use Rattle.rx_run.specs.declared.refusal.Refusal.{Refusal}
+use Rattle.rx_run.specs.declared.term.reading.InputForm.{InputForm}
 use Rattle.rec_run.specs.declared.spec.reading.Job.{Job}
 
 -- item_at w r: the tree of a term reference; the empty list if it has none
@@ -101,20 +102,24 @@ abbrev pub OnRefusedSpec : Option (List ℕ) → Type 0 → Type 0
 OnRefusedSpec text P =
     IfSome text (λ bytes. (v : Verdict) → verdict.SpecVerdict bytes v → IsRefusal v → P)
 
--- IsReadAs w v given r: after the verdict `v` on the specification, `r` determines the specified
--- output for the text `given` of input terms, if any
-abbrev pub IsReadAs : Store → Verdict → Option (List ℕ) → Reading Job → Type 0
-IsReadAs w v given r = (shown : Shown) (n : ℕ) → IsDueAfter v given shown n (run_due w shown n r)
+-- IsReadAs input w v given r: after the verdict `v` on the specification, `r` determines the
+-- specified output for the text `given` of input terms, if any, which is read in the form `input`
+abbrev pub IsReadAs : InputForm → Store → Verdict → Option (List ℕ) → Reading Job → Type 0
+IsReadAs input w v given r = (shown : Shown) (n : ℕ) → shown.input ≡ input
+    → IsDueAfter v given shown n (run_due w shown n r)
 
--- IsReadFor w y given r: for the accepted specification `y`, `r` determines the specified output
--- for the text `given` of input terms, if any
-abbrev pub IsReadFor : Store → syntax.Spec → Option (List ℕ) → Reading Job → Type 0
-IsReadFor w y given r = IsReadAs w (verdict.Good y) given r
+-- IsReadFor input w y given r: for the accepted specification `y`, `r` determines the specified
+-- output for the text `given` of input terms, if any
+abbrev pub IsReadFor : InputForm → Store → syntax.Spec → Option (List ℕ) → Reading Job → Type 0
+IsReadFor input w y given r = IsReadAs input w (verdict.Good y) given r
 
 -- refused_terms v: the error of a rejected text of input terms
 abbrev pub refused_terms : TermsVerdict → Option Refusal
 refused_terms TooLong = Some (record { text = source.Terms; reason = reason.Long })
 refused_terms (Outside at) = Some (record { text = source.Terms; reason = reason.Outside at })
+refused_terms NoTable = Some (record { text = source.Terms; reason = reason.NotTable })
+refused_terms (NoElement number) =
+    Some (record { text = source.Terms; reason = reason.Element number })
 refused_terms (BreaksTerms number) =
     Some (record { text = source.Terms; reason = reason.TermsRule number })
 refused_terms (GoodTerms ts) = None
@@ -124,33 +129,45 @@ abbrev pub IsTermsReading : Store → Reading Reference → TermsVerdict → Typ
 IsTermsReading w (reading.Refused r) v = refused_terms v ≡ Some r
 IsTermsReading w (reading.Good list) v = v ≡ GoodTerms (given_at w list)
 
--- IsTermsRead y w text r: `r` is the result of reading input terms for the verdict on `text`
-abbrev pub IsTermsRead : syntax.Spec → Store → List ℕ → Reading Reference → Type 0
-IsTermsRead y w text r = (v : TermsVerdict) × IsTermsVerdict y text v × IsTermsReading w r v
+-- IsTermsRead input y w text r: `r` is the result of reading input terms for the verdict on `text`,
+-- which is read in the form `input`
+abbrev pub IsTermsRead : InputForm → syntax.Spec → Store → List ℕ → Reading Reference → Type 0
+IsTermsRead input y w text r =
+    (v : TermsVerdict) × IsGivenVerdict input y text v × IsTermsReading w r v
 
--- IsListRead y w bytes r: for an accepted specification, `r` determines the specified output for
--- the text `bytes` of input terms
-abbrev pub IsListRead : syntax.Spec → Store → List ℕ → Reading Reference → Type 0
-IsListRead y w bytes r = (shown : Shown) (n : ℕ) → IsDueAfter (verdict.Good y) (Some bytes)
+-- IsJudged y w t r: `r` is the result for the tree `t` of input terms: rejected with the rule that it
+-- violates, or its items
+abbrev pub IsJudged : syntax.Spec → Store → Tree → Reading Reference → Type 0
+IsJudged y w t (reading.Refused r) = (number : ℕ) × (broken_by_terms y t ≡ Some number)
+    × (r ≡ record { text = source.Terms; reason = reason.TermsRule number })
+IsJudged y w t (reading.Good list) =
+    (broken_by_terms y t ≡ None) × (elements t ≡ Some (given_at w list))
+
+-- IsListRead input y w bytes r: for an accepted specification, `r` determines the specified output
+-- for the text `bytes` of input terms, which is read in the form `input`
+abbrev pub IsListRead : InputForm → syntax.Spec → Store → List ℕ → Reading Reference → Type 0
+IsListRead input y w bytes r = (shown : Shown) (n : ℕ) → shown.input ≡ input
+    → IsDueAfter (verdict.Good y) (Some bytes)
     shown n (reading_due (λ list. done (lines y (given_at w list) shown n)) r)
 
--- IsJobAfter w given first r: `r` is the result for both texts, from the result `first` for the
--- specification and the text `given` of input terms, if any
-abbrev pub IsJobAfter : Store → Option (List ℕ) → Reading Sourced → Reading Job → Type 0
-IsJobAfter w given (reading.Refused q) r = r ≡ reading.Refused q
-IsJobAfter w None (reading.Good checked) r = r ≡ job_alone_of (reading.Good checked)
-IsJobAfter w (Some bytes) (reading.Good checked) r = (t : Reading Reference)
-    × IsTermsRead checked.spec w bytes t × (r ≡ job_of checked t)
+-- IsJobAfter input w given first r: `r` is the result for both texts, from the result `first` for
+-- the specification and the text `given` of input terms, if any, which is read in the form `input`
+abbrev pub IsJobAfter : InputForm → Store → Option (List ℕ) → Reading Sourced → Reading Job → Type 0
+IsJobAfter input w given (reading.Refused q) r = r ≡ reading.Refused q
+IsJobAfter input w None (reading.Good checked) r = r ≡ job_alone_of (reading.Good checked)
+IsJobAfter input w (Some bytes) (reading.Good checked) r = (t : Reading Reference)
+    × IsTermsRead input checked.spec w bytes t × (r ≡ job_of checked t)
 
--- IsJobRead w texts r: `r` is the result of reading both texts; an accepted specification keeps its
--- text
-abbrev pub IsJobRead : Store → Texts → Reading Job → Type 0
-IsJobRead w texts r = (first : Reading Sourced) × IsSpecRead texts.spec first
-    × KeepsText texts.spec first × IsJobAfter w texts.terms first r
+-- IsJobRead input w texts r: `r` is the result of reading both texts, the input terms in the form
+-- `input`; an accepted specification keeps its text
+abbrev pub IsJobRead : InputForm → Store → Texts → Reading Job → Type 0
+IsJobRead input w texts r = (first : Reading Sourced) × IsSpecRead texts.spec first
+    × KeepsText texts.spec first × IsJobAfter input w texts.terms first r
 
--- IsReadFrom w texts r: `r` determines the specified output for both texts
-abbrev pub IsReadFrom : Store → Texts → Reading Job → Type 0
-IsReadFrom w texts r = (shown : Shown) (n : ℕ) → IsDueFor shown n texts (run_due w shown n r)
+-- IsReadFrom input w texts r: `r` determines the specified output for both texts
+abbrev pub IsReadFrom : InputForm → Store → Texts → Reading Job → Type 0
+IsReadFrom input w texts r = (shown : Shown) (n : ℕ) → shown.input ≡ input
+    → IsDueFor shown n texts (run_due w shown n r)
 
 -- HoldsList y w r: if the input terms were accepted, the store has them, and they violate no rule
 abbrev pub HoldsList : syntax.Spec → Store → Reading Reference → Type 0

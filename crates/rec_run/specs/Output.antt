@@ -8,6 +8,7 @@ use Rattle.rx_term.specs.Tree.{Tree, Trees, none, annotated, annotations}
 use Rattle.rx_text.specs.Grammar.{Spells}
 use Rattle.rx_text.specs.Place.{IsFaultPlace}
 use Rattle.rx_text.specs.Canon.{canon, canon_all, enclosed}
+use Rattle.rx_table.specs.Opened.{broken_by_table, broken_element, tree_of_table}
 use Rattle.rx_table.specs.Table.{table}
 use Rattle.rec_syntax.specs.Syntax.{Term, Spec}
 use Rattle.rec_sorts.specs.TermRules.{broken_by_terms, elements}
@@ -16,6 +17,8 @@ use Rattle.rec_sorts.specs.Evaluation.{Done, Over, Eval, term_of}
 use Rattle.rx_run.specs.Due.{Due, done, refused, steps_text}
 use Rattle.rx_run.specs.declared.ending.Source.TheVariants as source
 use Rattle.rx_run.specs.declared.ending.Named.TheVariants as named
+use Rattle.rx_run.specs.declared.term.reading.InputForm.{InputForm}
+use Rattle.rx_run.specs.declared.term.reading.InputForm.TheVariants as input_form
 use Rattle.rec_run.specs.declared.options.LimitLines.{LimitLines}
 use Rattle.rec_run.specs.declared.options.LimitLines.TheVariants.{Bare, Annotated}
 use Rattle.rec_run.specs.declared.options.RunSettings.{RunSettings}
@@ -31,16 +34,18 @@ pub record Task : Type 0 where
   pub notes : Trees
 
 -- Shown: the form of lines: whether the numbers of steps and of cells follow a value, the form of
--- limit lines and the form of values; and the terms that have a line
+-- limit lines and the form of values; the terms that have a line, and the form in which input terms
+-- are read
 pub record Shown : Type 0 where
   pub count : Bool
   pub sizes : Bool
   pub limits : LimitLines
   pub form : ValueForm
   pub terms : TermChoice
+  pub input : InputForm
 
 -- shown_by count limits form: limit lines of the form `limits` and values of the form `form`
--- without their numbers of cells, for all terms
+-- without their numbers of cells, for all terms; input terms are a text
 abbrev pub shown_by : Bool → LimitLines → ValueForm → Shown
 shown_by count limits form = record {
   count = count;
@@ -48,6 +53,7 @@ shown_by count limits form = record {
   limits = limits;
   form = form;
   terms = All;
+  input = input_form.Term;
 }
 
 -- bare count: limit lines without annotations and values of any length, for all terms
@@ -62,6 +68,7 @@ shown_of s = record {
   limits = s.limits;
   form = s.form;
   terms = s.terms;
+  input = s.input;
 }
 
 -- own_shown shown: the form of the lines of terms without annotations: limit lines have none
@@ -181,11 +188,13 @@ counts_of terms y given form n = record {
 abbrev pub given_limits : Spec → ValueForm → ℕ → List Tree → ℕ
 given_limits y form n us = count_by (λ u. is_limited y form n (given_task u)) us
 
--- TermsVerdict: a text of input terms is too long, has a syntax error at an offset, violates a
--- rule, or is accepted with these terms
+-- TermsVerdict: a text of input terms is too long, has a syntax error at an offset, is not a table,
+-- is a table with an element that does not open, violates a rule, or is accepted with these terms
 pub data TermsVerdict : Type 0 where
   TooLong : TermsVerdict
   Outside : (at : ℕ) → TermsVerdict
+  NoTable : TermsVerdict
+  NoElement : (number : ℕ) → TermsVerdict
   BreaksTerms : (number : ℕ) → TermsVerdict
   GoodTerms : List Tree → TermsVerdict
 
@@ -194,10 +203,33 @@ pub data TermsVerdict : Type 0 where
 abbrev pub IsTermsVerdict : Spec → List ℕ → TermsVerdict → Type 0
 IsTermsVerdict y bytes TooLong = 16777216 < length bytes
 IsTermsVerdict y bytes (Outside at) = Fits bytes × IsFaultPlace bytes at
+IsTermsVerdict y bytes NoTable = ⊥
+IsTermsVerdict y bytes (NoElement number) = ⊥
 IsTermsVerdict y bytes (BreaksTerms number) = Fits bytes
     × ((t : Tree) × Spells bytes t × (broken_by_terms y t ≡ Some number))
 IsTermsVerdict y bytes (GoodTerms ts) = Fits bytes
     × ((t : Tree) × Spells bytes t × (broken_by_terms y t ≡ None) × (elements t ≡ Some ts))
+
+-- IsTableVerdict y bytes v: `v` is the verdict on the text of a table of input terms
+abbrev pub IsTableVerdict : Spec → List ℕ → TermsVerdict → Type 0
+IsTableVerdict y bytes TooLong = 16777216 < length bytes
+IsTableVerdict y bytes (Outside at) = Fits bytes × IsFaultPlace bytes at
+IsTableVerdict y bytes NoTable = Fits bytes
+    × ((t : Tree) × Spells bytes t × (broken_by_table t ≡ Some 1))
+IsTableVerdict y bytes (NoElement number) = Fits bytes
+    × ((t : Tree) × Spells bytes t × (broken_by_table t ≡ Some 2)
+    × (broken_element t ≡ Some number))
+IsTableVerdict y bytes (BreaksTerms number) = Fits bytes
+    × ((t u : Tree) × Spells bytes t × (tree_of_table t ≡ Some u)
+    × (broken_by_terms y u ≡ Some number))
+IsTableVerdict y bytes (GoodTerms ts) = Fits bytes
+    × ((t u : Tree) × Spells bytes t × (tree_of_table t ≡ Some u) × (broken_by_terms y u ≡ None)
+    × (elements u ≡ Some ts))
+
+-- IsGivenVerdict input y bytes v: `v` is the verdict on input terms that are read in this form
+abbrev pub IsGivenVerdict : InputForm → Spec → List ℕ → TermsVerdict → Type 0
+IsGivenVerdict input_form.Term = IsTermsVerdict
+IsGivenVerdict input_form.Table = IsTableVerdict
 
 -- due_of_spec shown n v: the specified output after the verdict on a specification without input
 -- terms
@@ -214,6 +246,8 @@ abbrev pub due_of_terms : Spec → Shown → ℕ → TermsVerdict → Due
 due_of_terms y shown n TooLong = refused (codes "!terms ") (codes "L1") None
 due_of_terms y shown n (Outside at) = refused (codes "!terms ") (codes "A")
     (Some (record { text = source.Terms; rule = named.A; at = at }))
+due_of_terms y shown n NoTable = refused (codes "!terms ") (codes "R1") None
+due_of_terms y shown n (NoElement number) = refused (codes "!terms ") (codes "R2") None
 due_of_terms y shown n (BreaksTerms number) = refused (codes "!terms ")
     (codes "T" ++ decimal number) None
 due_of_terms y shown n (GoodTerms ts) = done (lines y ts shown n)
@@ -221,8 +255,8 @@ due_of_terms y shown n (GoodTerms ts) = done (lines y ts shown n)
 -- IsDueAfter v terms shown n d: `d` is the specified output after the verdict on the specification;
 -- the input terms count only if it is accepted
 abbrev pub IsDueAfter : Verdict → Option (List ℕ) → Shown → ℕ → Due → Type 0
-IsDueAfter (Good y) (Some terms) shown n d = (v : TermsVerdict) × IsTermsVerdict y terms v
-    × (d ≡ due_of_terms y shown n v)
+IsDueAfter (Good y) (Some terms) shown n d = (v : TermsVerdict)
+    × IsGivenVerdict shown.input y terms v × (d ≡ due_of_terms y shown n v)
 IsDueAfter v terms shown n d = d ≡ due_of_spec shown n v
 
 -- IsDue spec terms shown n d: `d` is the specified output for the text of a specification and the

@@ -10,9 +10,10 @@ use Rattle.rec_engine.specs.declared.engine.Outcome.{Outcome}
 use Rattle.rec_engine.specs.declared.engine.Outcome.TheVariants.{Value, Limit}
 use Rattle.rx_run.specs.declared.refusal.Reading.{Reading}
 use Rattle.rx_run.specs.declared.refusal.Reading.TheVariants as reading
+use Rattle.rx_run.specs.declared.term.reading.InputForm.{InputForm}
 use Rattle.rec_run.specs.GivenTerms.{given_by}
-use Rattle.rec_run.specs.Output.{Task, TermsVerdict, GoodTerms, IsTermsVerdict, given_task}
-use Rattle.rec_run.specs.Output.{chosen, counts_of, limit_lines}
+use Rattle.rec_run.specs.Output.{Shown, Task, TermsVerdict, GoodTerms, IsGivenVerdict}
+use Rattle.rec_run.specs.Output.{chosen, counts_of, given_task, limit_lines}
 use Rattle.rec_run.specs.Run.{Texts}
 use Rattle.rec_run.specs.declared.options.TermChoice.{TermChoice}
 use Rattle.rec_run.specs.declared.options.ValueForm.{ValueForm}
@@ -58,33 +59,34 @@ module _ {A : Type 0} (none : A) (of : Spec → List Tree → A) where
   found_for_terms y (GoodTerms ts) = of y ts
   found_for_terms y v = none
 
-  -- IsFoundAfter v terms a: `a` is the result after the verdict on the specification; the input
-  -- terms count only if it is accepted
-  abbrev pub IsFoundAfter : Verdict → Option (List ℕ) → A → Type 0
-  IsFoundAfter (Good y) (Some terms) a = (v : TermsVerdict) × IsTermsVerdict y terms v
-      × (a ≡ found_for_terms y v)
-  IsFoundAfter v terms a = a ≡ found_for_spec v
+  -- IsFoundAfter input v terms a: `a` is the result after the verdict on the specification; the
+  -- input terms, which are read in this form, count only if it is accepted
+  abbrev pub IsFoundAfter : InputForm → Verdict → Option (List ℕ) → A → Type 0
+  IsFoundAfter input (Good y) (Some terms) a = (v : TermsVerdict)
+      × IsGivenVerdict input y terms v × (a ≡ found_for_terms y v)
+  IsFoundAfter input v terms a = a ≡ found_for_spec v
 
-  -- IsFoundFor texts a: `a` is the result for both texts
-  abbrev pub IsFoundFor : Texts → A → Type 0
-  IsFoundFor texts a = (v : Verdict) × SpecVerdict texts.spec v × IsFoundAfter v texts.terms a
+  -- IsFoundFor input texts a: `a` is the result for both texts
+  abbrev pub IsFoundFor : InputForm → Texts → A → Type 0
+  IsFoundFor input texts a =
+      (v : Verdict) × SpecVerdict texts.spec v × IsFoundAfter input v texts.terms a
 
   -- job_found w r: the result for the texts that were read, with input terms in the store `w`
   abbrev pub job_found : Store → Reading Job → A
   job_found w (reading.Refused r) = none
   job_found w (reading.Good job) = of job.checked.spec (given_by w job.list)
 
--- IsToldFor terms says n texts told: `told` is the report on the values of the chosen terms of both
+-- IsToldFor shown says n texts told: `told` is the report on the values of the chosen terms of both
 -- texts
-abbrev pub IsToldFor : TermChoice → Says → ℕ → Texts → List ℕ → Type 0
-IsToldFor terms says n texts told =
-    IsFoundFor [] (λ y ts. report_of terms says texts.spec y ts n) texts told
+abbrev pub IsToldFor : Shown → Says → ℕ → Texts → List ℕ → Type 0
+IsToldFor shown says n texts told =
+    IsFoundFor [] (λ y ts. report_of shown.terms says texts.spec y ts n) shown.input texts told
 
--- Tells terms says n texts old new: `new` is `old`, followed by the report on the values of the
+-- Tells shown says n texts old new: `new` is `old`, followed by the report on the values of the
 -- chosen terms of the texts, if their readers describe them
-abbrev pub Tells : TermChoice → Says → ℕ → Option Texts → List ℕ → List ℕ → Type 0
-Tells terms says n texts old new =
-    IfSome texts (λ t. (told : List ℕ) × IsToldFor terms says n t told × (new ≡ old ++ told))
+abbrev pub Tells : Shown → Says → ℕ → Option Texts → List ℕ → List ℕ → Type 0
+Tells shown says n texts old new =
+    IfSome texts (λ t. (told : List ℕ) × IsToldFor shown says n t told × (new ≡ old ++ told))
 
 -- job_report terms says w n r: the report on the values of the chosen terms of the texts that were
 -- read
@@ -93,17 +95,17 @@ job_report terms says w n (reading.Refused r) = []
 job_report terms says w n (reading.Good job) =
     report_of terms says job.checked.source job.checked.spec (given_by w job.list) n
 
--- HasLines terms texts count: `count` is the number of lines of terms in the specified output, if
+-- HasLines shown texts count: `count` is the number of lines of terms in the specified output, if
 -- the readers describe the texts
-abbrev pub HasLines : TermChoice → Option Texts → ℕ → Type 0
-HasLines terms texts count =
-    IfSome texts (λ t. IsFoundFor 0 (λ y ts. length (chosen terms y ts)) t count)
+abbrev pub HasLines : Shown → Option Texts → ℕ → Type 0
+HasLines shown texts count = IfSome texts
+    (λ t. IsFoundFor 0 (λ y ts. length (chosen shown.terms y ts)) shown.input t count)
 
--- HasLimitLines terms form n texts count: `count` is the number of limit lines in the specified
--- output, if the readers describe the texts
-abbrev pub HasLimitLines : TermChoice → ValueForm → ℕ → Option Texts → ℕ → Type 0
-HasLimitLines terms form n texts count =
-    IfSome texts (λ t. IsFoundFor 0 (λ y ts. limit_lines terms y ts form n) t count)
+-- HasLimitLines shown n texts count: `count` is the number of limit lines in the specified output,
+-- if the readers describe the texts
+abbrev pub HasLimitLines : Shown → ℕ → Option Texts → ℕ → Type 0
+HasLimitLines shown n texts count = IfSome texts
+    (λ t. IsFoundFor 0 (λ y ts. limit_lines shown.terms y ts shown.form n) shown.input t count)
 
 -- no_lines: there are no lines
 abbrev pub no_lines : Counts

@@ -2,6 +2,7 @@
 
 ghost use Rattle.std.specs.Prelude.{◌≤◌, ◌^◌};
 
+use rx_run::InputForm;
 use std::alloc::Global;
 
 /// Limits of a run, and whether steps are printed.
@@ -71,6 +72,8 @@ pub struct RunSettings {
     pub depth: Option<u32>,
     /// The terms that are evaluated.
     pub terms: TermChoice,
+    /// The form in which input terms are read.
+    pub input: InputForm,
 }
 
 /// The allocator and the settings of a run.

@@ -15,7 +15,7 @@ use crate::options::{LimitLines, RunOptions, RunSettings, TermChoice, ValueForm}
 use crate::spec::due::RunReport;
 use crate::spec::given::run_given;
 use crate::spec::input_terms::NoTerms;
-use rx_run::{Finish, Place, RunFault};
+use rx_run::{Finish, InputForm, Place, RunFault};
 use rx_text::Input;
 use std::alloc::Global;
 use std::io::{Read, Write};
@@ -100,6 +100,7 @@ pub fn run_at<R: Read, T: Read, W: Write>(
         sizes: false,
         depth: None,
         terms: TermChoice::All,
+        input: InputForm::Term,
     };
     let mut observer = unobserved();
     match terms {

@@ -1,14 +1,10 @@
 -- What is due for the texts of a run of traces.
-use Rattle.std.proofs.Common.{refl, sym, ap, subst, ◌∙◌, arith}
+use Rattle.std.proofs.Common.{sym, ap, subst, ◌∙◌}
 use Rattle.std.specs.Prelude.{ℕ, ◌≡◌, List, Option, Some, None, IfSome}
 use Rattle.rx_term.specs.Store.{Store}
 use Rattle.rx_term.specs.declared.Term.{Term as Reference}
-use Rattle.rx_text.proofs.UniqueLemmas.{one_tree}
-use Rattle.rx_text.proofs.PlaceLemmas as trees
-use Rattle.rx_text.proofs.FaultLemmas as trees_or_places
 use Rattle.rec_syntax.specs.Syntax.{Sourced, Spec}
 use Rattle.rec_sorts.specs.SpecRules.{Verdict, Long, Grammar, Breaks, Good}
-use Rattle.rec_sorts.specs.TermRules.{broken_by_terms, elements}
 use Rattle.rx_run.specs.Due.{Due}
 use Rattle.rx_run.specs.Refusals.{refusal_due}
 use Rattle.rx_run.specs.declared.refusal.Reading.{Reading}
@@ -17,43 +13,21 @@ use Rattle.rx_run.specs.declared.refusal.Refusal.{Refusal}
 use Rattle.rx_run.proofs.WholeRunLemmas.{same_refusal}
 use Rattle.rec_run.specs.GivenTerms.{IsJobAfter, IsJobRead}
 use Rattle.rec_run.specs.GivenTerms.{IsTermsRead, job_alone_of, job_of, refused_terms}
-use Rattle.rec_run.specs.Output.{TermsVerdict, TooLong, Outside, BreaksTerms, GoodTerms, IsTermsVerdict}
+use Rattle.rx_run.specs.declared.term.reading.InputForm.TheVariants as form
+use Rattle.rec_run.specs.Output.{TermsVerdict, TooLong, Outside, NoTable, NoElement, BreaksTerms, GoodTerms}
 use Rattle.rec_run.specs.Reading.{IsSpecReading, KeepsText, refused_spec}
 use Rattle.rec_run.specs.Run.{Texts}
 use Rattle.rec_run.specs.declared.spec.reading.Job.{Job}
-use Rattle.rec_run.proofs.OneDueLemmas.{one_verdict}
+use Rattle.rec_run.proofs.OneDueLemmas.{one_given_verdict, one_verdict}
 use Rattle.rec_trace_run.specs.Inner.Due.{trace_due}
 use Rattle.rec_trace_run.specs.Traces.{IsTraceDueAfter, IsTraceDueFor, OneTraceDue, Shown, trace_due_of_spec, trace_due_of_terms}
 
 -- ---- one thing is due at most
 
--- a text of terms has one verdict at most
-one_terms_verdict : (y : Spec) (bytes : List ℕ) (v w : TermsVerdict) → IsTermsVerdict y bytes v → IsTermsVerdict y bytes w → v ≡ w
-one_terms_verdict y bytes TooLong TooLong h k = refl
-one_terms_verdict y bytes TooLong (Outside b) h (fits, k) = absurd (omega (arith, h, fits))
-one_terms_verdict y bytes TooLong (BreaksTerms m) h (fits, k) = absurd (omega (arith, h, fits))
-one_terms_verdict y bytes TooLong (GoodTerms us) h (fits, k) = absurd (omega (arith, h, fits))
-one_terms_verdict y bytes (Outside a) TooLong (fits, h) k = absurd (omega (arith, k, fits))
-one_terms_verdict y bytes (Outside a) (Outside b) (fits, h) (again, k) = ap Outside (trees.one_place bytes a b h k)
-one_terms_verdict y bytes (Outside a) (BreaksTerms m) (fits, h) (again, (u, text, broken)) = absurd (trees_or_places.not_both bytes u a text h)
-one_terms_verdict y bytes (Outside a) (GoodTerms us) (fits, h) (again, (u, text, good, these)) = absurd (trees_or_places.not_both bytes u a text h)
-one_terms_verdict y bytes (BreaksTerms l) TooLong (fits, h) k = absurd (omega (arith, k, fits))
-one_terms_verdict y bytes (BreaksTerms l) (Outside b) (fits, (t, text, broken)) (again, k) = absurd (trees_or_places.not_both bytes t b text k)
-one_terms_verdict y bytes (BreaksTerms l) (BreaksTerms m) (fits, (t, text, broken)) (again, (u, other, spoilt)) =
-    let e = ap (broken_by_terms y) (one_tree bytes t u text other) in let same : l ≡ m = cc (broken, e, spoilt) in ap BreaksTerms same
-one_terms_verdict y bytes (BreaksTerms l) (GoodTerms us) (fits, (t, text, broken)) (again, (u, other, good, these)) =
-    absurd (cc (broken, ap (broken_by_terms y) (one_tree bytes t u text other), good))
-one_terms_verdict y bytes (GoodTerms ts) TooLong (fits, h) k = absurd (omega (arith, k, fits))
-one_terms_verdict y bytes (GoodTerms ts) (Outside b) (fits, (t, text, good, these)) (again, k) = absurd (trees_or_places.not_both bytes t b text k)
-one_terms_verdict y bytes (GoodTerms ts) (BreaksTerms m) (fits, (t, text, good, these)) (again, (u, other, spoilt)) =
-    absurd (cc (good, ap (broken_by_terms y) (one_tree bytes t u text other), spoilt))
-one_terms_verdict y bytes (GoodTerms ts) (GoodTerms us) (fits, (t, text, good, these)) (again, (u, other, kept, those)) =
-    let e = ap elements (one_tree bytes t u text other) in let same : ts ≡ us = cc (these, e, those) in ap GoodTerms same
-
 one_after : (source : List ℕ) (v : Verdict) (terms : Option (List ℕ)) (shown : Shown) (n : ℕ) (d e : Due) → IsTraceDueAfter source v terms shown n d
     → IsTraceDueAfter source v terms shown n e → d ≡ e
 one_after source (Good y) (Some terms) shown n d e (v, h, is) (w, k, same) =
-    is ∙ ap (trace_due_of_terms source y shown n) (one_terms_verdict y terms v w h k) ∙ sym same
+    is ∙ ap (trace_due_of_terms source y shown n) (one_given_verdict form.Term y terms v w h k) ∙ sym same
 one_after source (Good y) None shown n d e h k = h ∙ sym k
 one_after source Long terms shown n d e h k = h ∙ sym k
 one_after source (Grammar at) terms shown n d e h k = h ∙ sym k
@@ -79,10 +53,12 @@ refused_due : (source : List ℕ) (y : Spec) (shown : Shown) (n : ℕ) (r : Refu
     → refusal_due r ≡ trace_due_of_terms source y shown n v
 refused_due source y shown n r TooLong e = ap refusal_due (same_refusal e)
 refused_due source y shown n r (Outside at) e = ap refusal_due (same_refusal e)
+refused_due source y shown n r NoTable e = ap refusal_due (same_refusal e)
+refused_due source y shown n r (NoElement number) e = ap refusal_due (same_refusal e)
 refused_due source y shown n r (BreaksTerms number) e = ap refusal_due (same_refusal e)
 refused_due source y shown n r (GoodTerms ts) e = absurd (cc e)
 
-terms_read : (w : Store) (checked : Sourced) (bytes : List ℕ) (r : Reading Reference) → IsTermsRead checked.spec w bytes r
+terms_read : (w : Store) (checked : Sourced) (bytes : List ℕ) (r : Reading Reference) → IsTermsRead form.Term checked.spec w bytes r
     → (shown : Shown) (n : ℕ) → IsTraceDueAfter checked.source (Good checked.spec) (Some bytes) shown n (trace_due w shown n (job_of checked r))
 terms_read w checked bytes (reading.Refused r) (v, h, is) = λ shown n. (v, h, refused_due checked.source checked.spec shown n r v is)
 terms_read w checked bytes (reading.Good list) (v, h, is) = λ shown n. (v, h, ap (trace_due_of_terms checked.source checked.spec shown n) (sym is))
@@ -90,7 +66,7 @@ terms_read w checked bytes (reading.Good list) (v, h, is) = λ shown n. (v, h, a
 -- both
 module _ (w : Store) (shown : Shown) (n : ℕ) where
   due_after : (source : List ℕ) (given : Option (List ℕ)) (first : Reading Sourced) (r : Reading Job) (v : Verdict) → KeepsText source first
-      → IsSpecReading first v → IsJobAfter w given first r → IsTraceDueAfter source v given shown n (trace_due w shown n r)
+      → IsSpecReading first v → IsJobAfter form.Term w given first r → IsTraceDueAfter source v given shown n (trace_due w shown n r)
   due_after source given (reading.Refused q) r v kept is h =
       subst (λ z. IsTraceDueAfter source v given shown n (trace_due w shown n z)) (sym h) (after_refusal source v q given shown n is)
   due_after source None (reading.Good checked) r v kept is h =
@@ -104,7 +80,7 @@ module _ (w : Store) (shown : Shown) (n : ℕ) where
       (subst (λ z. IsTraceDueAfter source z (Some bytes) shown n due) (sym is)
       (subst (λ s. IsTraceDueAfter s (Good checked.spec) (Some bytes) shown n due) kept (terms_read w checked bytes t k shown n)))
 
-  pub due_read : (texts : Option Texts) (r : Reading Job) → IfSome texts (λ t. IsJobRead w t r)
+  pub due_read : (texts : Option Texts) (r : Reading Job) → IfSome texts (λ t. IsJobRead form.Term w t r)
       → IfSome texts (λ t. IsTraceDueFor shown n t (trace_due w shown n r))
   due_read None r h = tt
   due_read (Some t) r (first, (v, h, is), kept, after) = (v, h, due_after t.spec t.terms first r v kept is after)

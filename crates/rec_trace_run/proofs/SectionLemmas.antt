@@ -3,9 +3,9 @@ use Rattle.std.proofs.Common.{inl, inr, refl, sym, ap, ap₂, subst, ◌∙◌, 
 use Rattle.std.proofs.lemmas.Bool.{cases_lt}
 use Rattle.std.proofs.lemmas.List.{drop-append-le, drop-drop, drop_all, length-append, length-drop, length-take, take-append-le}
 use Rattle.std.proofs.Math.Seq.{drop-nil, take-append-add, take-nil}
-use Rattle.std.specs.Prelude.{ℕ, ◌≡◌, ◌-◌, ◌+◌, ◌<◌, ◌≤◌, ◌⊎◌, Bool, true, false, List, [], ◌∷◌, ◌++◌}
-use Rattle.std.specs.Prelude.{Option, Some, None, drop, if◌then◌else◌, length, take}
-use Rattle.rec_trace_run.specs.Picks.{Picks, back_count, front_lines, left_out_count, rest_lines}
+use Rattle.std.specs.Prelude.{ℕ, ◌≡◌, ◌-◌, ◌+◌, ◌<◌, ◌≤◌, ◌⊎◌, true, false, List, [], ◌∷◌, ◌++◌}
+use Rattle.std.specs.Prelude.{Option, Some, None, drop, length, take}
+use Rattle.rec_trace_run.specs.Picks.{Picks, front_lines, left_out_count, rest_lines}
 use Rattle.rec_trace_run.specs.Inner.Telling.{AddsIf, HasBounds, front_most, lines_between, section_lines}
 use Rattle.rec_trace_run.specs.declared.section.Section.{Section}
 use Rattle.rec_trace_run.proofs.PickLemmas.{bounded}

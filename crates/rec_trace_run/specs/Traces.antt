@@ -16,6 +16,7 @@ use Rattle.rec_run.specs.Run.{Texts}
 use Rattle.rec_run.specs.declared.options.LimitLines.TheVariants.{Bare}
 use Rattle.rec_run.specs.declared.options.TermChoice.{TermChoice}
 use Rattle.rec_run.specs.declared.options.ValueForm.TheVariants.{Plain}
+use Rattle.rx_run.specs.declared.term.reading.InputForm.TheVariants as input
 use Rattle.rec_trace.specs.Lines.{begins_with_digit, firing_line, joined, term_lines, value_line}
 use Rattle.rec_trace.specs.Lines.{whole_line, whole_text}
 use Rattle.rec_trace.specs.Trace.{Firing, Trace}
@@ -49,6 +50,7 @@ lines_shown shown = record {
   limits = Bare;
   form = Plain;
   terms = shown.terms;
+  input = input.Term;
 }
 
 -- the line of a rewrite

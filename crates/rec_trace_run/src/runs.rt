@@ -8,14 +8,13 @@ ghost use Rattle.rx_run.specs.Streams.{ReportsWrite};
 ghost use Rattle.rec_run.specs.GivenTerms.{OnGoodSpec, OnRefusedSpec};
 ghost use Rattle.rec_run.specs.Reports.{HasLimitLines, HasLines};
 ghost use Rattle.rec_run.specs.Run.{HasRoom, ReportsReadsOf, both_texts};
-ghost use Rattle.rec_run.specs.declared.options.ValueForm.TheVariants.{Plain};
 ghost use Rattle.rec_trace_run.specs.Inner.Pages.{FullIfRoom};
-ghost use Rattle.rec_trace_run.specs.Traces.{IsTraceDueFor, shown_by};
+ghost use Rattle.rec_trace_run.specs.Traces.{IsTraceDueFor, lines_shown, shown_by};
 
 use crate::due::{Left, answer};
 use crate::options::{Setup, TraceOptions};
 use rec_run::{InputTerms, RunReport, read_given_from};
-use rx_run::{RunFault, empty_bank};
+use rx_run::{InputForm, RunFault, empty_bank};
 use rx_term::TermBank;
 use rx_text::{Input, Output};
 use std::alloc::Global;
@@ -40,10 +39,11 @@ pub fn run_trace<R: Read, G: InputTerms, W: Write>(
         (IsTraceDueFor (shown_by options.entry) options.entry.run.steps)
         (both_texts (R.remaining spec.old) (G.text terms.old))
         report.ending (W.contents out.old) (W.contents out.new)) }
-    ensures lines { IfOk result (λ report. HasLines options.entry.terms
+    ensures lines { IfOk result (λ report. HasLines (lines_shown (shown_by options.entry))
         (both_texts (R.remaining spec.old) (G.text terms.old)) report.lines) }
-    ensures limits { IfOk result (λ report. HasLimitLines options.entry.terms Plain
-        options.entry.run.steps (both_texts (R.remaining spec.old) (G.text terms.old))
+    ensures limits { IfOk result (λ report. HasLimitLines
+        (lines_shown (shown_by options.entry)) options.entry.run.steps
+        (both_texts (R.remaining spec.old) (G.text terms.old))
         report.limit_lines) }
     ensures fault { IfErr result (λ fault. BreaksFor
         (IsTraceDueFor (shown_by options.entry) options.entry.run.steps)
@@ -79,10 +79,11 @@ fn trace_over<B: TermBank + Drop, R: Read, G: InputTerms, W: Write>(
         (IsTraceDueFor (shown_by setup.entry.options) setup.entry.options.run.steps)
         (both_texts (R.remaining spec.old) (G.text terms.old))
         report.ending (W.contents out.old) (W.contents out.new)) }
-    ensures lines { IfOk result.end (λ report. HasLines setup.entry.options.terms
+    ensures lines { IfOk result.end (λ report. HasLines (lines_shown (shown_by setup.entry.options))
         (both_texts (R.remaining spec.old) (G.text terms.old)) report.lines) }
-    ensures limits { IfOk result.end (λ report. HasLimitLines setup.entry.options.terms Plain
-        setup.entry.options.run.steps (both_texts (R.remaining spec.old) (G.text terms.old))
+    ensures limits { IfOk result.end (λ report. HasLimitLines
+        (lines_shown (shown_by setup.entry.options)) setup.entry.options.run.steps
+        (both_texts (R.remaining spec.old) (G.text terms.old))
         report.limit_lines) }
     ensures fault { IfErr result.end (λ fault. BreaksFor
         (IsTraceDueFor (shown_by setup.entry.options) setup.entry.options.run.steps)
@@ -117,10 +118,11 @@ fn given_over<B: TermBank + Drop, R: Read, G: InputTerms, W: Write>(
         (IsTraceDueFor (shown_by setup.entry.options) setup.entry.options.run.steps)
         (both_texts (remaining_in R.remaining spec.old) (G.text terms.old))
         report.ending (contents_of W.contents out.old) (contents_of W.contents out.new)) }
-    ensures lines { IfOk result.end (λ report. HasLines setup.entry.options.terms
+    ensures lines { IfOk result.end (λ report. HasLines (lines_shown (shown_by setup.entry.options))
         (both_texts (remaining_in R.remaining spec.old) (G.text terms.old)) report.lines) }
-    ensures limits { IfOk result.end (λ report. HasLimitLines setup.entry.options.terms Plain
-        setup.entry.options.run.steps (both_texts (remaining_in R.remaining spec.old) (G.text terms.old))
+    ensures limits { IfOk result.end (λ report. HasLimitLines
+        (lines_shown (shown_by setup.entry.options)) setup.entry.options.run.steps
+        (both_texts (remaining_in R.remaining spec.old) (G.text terms.old))
         report.limit_lines) }
     ensures fault { IfErr result.end (λ fault. BreaksFor
         (IsTraceDueFor (shown_by setup.entry.options) setup.entry.options.run.steps)
@@ -139,7 +141,7 @@ fn given_over<B: TermBank + Drop, R: Read, G: InputTerms, W: Write>(
         (G.refused terms.old) (G.refused terms.new) result.end }
     ensures reports { ReportsWrite out.old out.new result.end }
 {
-    match read_given_from(setup.alloc, spec, terms, &mut bank) {
+    match read_given_from(setup.alloc, InputForm::Term, spec, terms, &mut bank) {
         Ok(reading) => answer(setup, bank, reading, out),
         Err(fault) => Left {
             end: Err(fault),

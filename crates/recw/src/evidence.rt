@@ -13,7 +13,7 @@ use recw_cli::{
     Texts, Unnamed, Which, count_terms, explain_given, explain_part, explain_place,
     explain_trouble, explain_whole,
 };
-use rx_run::{Ending, Reason, Refusal, RunFault, Source};
+use rx_run::{Ending, InputForm, Reason, Refusal, RunFault, Source};
 use std::alloc::Global;
 use std::io;
 use std::io::{Error, ErrorKind, Read, Write};
@@ -169,8 +169,19 @@ impl<'a> Evidence<'a> {
         }
     }
 
-    /// Returns the number of terms of the run, if its texts were recorded.
+    /// Returns whether the input terms are read as a table.
+    fn has_table(&self) -> bool {
+        match self.invocation.request {
+            Request::Eval { options, .. } => options.input == InputForm::Table,
+            _ => false,
+        }
+    }
+
+    /// Returns the number of terms of the run, if its texts were recorded and are not tables.
     fn term_count(&self) -> Option<u64> {
+        if self.has_table() {
+            return None;
+        }
         let syntax = read_spec(self.alloc, &self.first).ok()?;
         let invocation = self.invocation;
         let input = if !invocation.given.is_empty() {
@@ -323,7 +334,7 @@ impl<'a> Evidence<'a> {
             (Some(place), _) => {
                 self.explain_at(named, self.text_of(source), place.at as usize, out)
             }
-            (None, Source::Terms) => self.explain_terms(named, out),
+            (None, Source::Terms) if !self.has_table() => self.explain_terms(named, out),
             (None, _) => { explain_whole(named, self.text_of(source), self.item_of(refusal), out) }
         }
     }

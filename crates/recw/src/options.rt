@@ -52,6 +52,7 @@ pub fn run_settings(options: EvalOptions) -> RunSettings {
         sizes: options.sizes,
         depth: options.depth,
         terms: term_choice(options),
+        input: options.input,
     }
 }
 

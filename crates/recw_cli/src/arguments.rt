@@ -66,6 +66,8 @@ pub enum Kind {
     Choice(Choice),
     /// An option without a value, which excludes the other option.
     FlagWithout(&'static str),
+    /// An option without a value, which requires the first argument and excludes the second one.
+    FlagBeside(&'static str, &'static str),
     /// The option `-e`, which may be repeated, and excludes the argument with this name.
     Input(&'static str),
     /// An option with a file, which may be repeated; the string is its placeholder in the help.
@@ -120,6 +122,13 @@ pub const INPUT: Argument = Argument {
     name: "input",
     help: "Input term instead of TERMS; may be repeated",
     kind: Kind::Input("TERMS"),
+};
+
+/// The option `--terms-table`, which requires a file of input terms.
+pub const TERMS_TABLE: Argument = Argument {
+    name: "terms-table",
+    help: "Read TERMS as a table",
+    kind: Kind::FlagBeside("TERMS", "input"),
 };
 
 /// The option `--only-terms`.
@@ -496,6 +505,10 @@ fn argument_of<'a>(alloc: Global, argument: &Argument) -> Result<Arg<'a>, AllocE
         Kind::Name(called) => Ok(bare.long(argument.name).value_name(called)),
         Kind::Choice(choice) => Ok(one_of(bare, argument.name, &choice)),
         Kind::FlagWithout(other) => flag(bare, argument.name).conflicts_with(other),
+        Kind::FlagBeside(other, excluded) => {
+            let flag = flag(bare, argument.name).requires_arg(other)?;
+            flag.conflicts_with(excluded)
+        }
         Kind::Input(other) => input(bare, argument.name).conflicts_with(other),
         Kind::Files(called) => Ok(files(bare, argument.name, called)),
     }

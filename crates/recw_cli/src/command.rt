@@ -4,7 +4,7 @@ use crate::arguments::{
     AT, Argument, BYTES, CELLS, COUNT, DEPTH, DOT, EXPLAIN, EXPLAIN_FINDINGS, FILE, FIRST, FORMAT,
     FROM_TABLE, INDENT, INPUT, JOIN, Kind, LAST, LINE_WIDTH, MEMO, NODES, ONLY_TERMS, PATTERN,
     RECLAIM, RESULT_NODES, RESULT_TABLES, RULE, RULES, SERVED_BYTES, SERVED_DEPTH, SIZES, SPENT,
-    STEPS, SYMBOL, TERM, TERM_BYTES, TERMS, TO_TABLE, WIDTH, arguments_of,
+    STEPS, SYMBOL, TERM, TERM_BYTES, TERMS, TERMS_TABLE, TO_TABLE, WIDTH, arguments_of,
 };
 use clap::Command;
 use std::alloc::{AllocError, Global};
@@ -54,6 +54,7 @@ const EVAL: Subcommand = Subcommand {
         },
         TERMS,
         INPUT,
+        TERMS_TABLE,
         ONLY_TERMS,
         TERM,
         JOIN,

@@ -32,6 +32,8 @@ pub enum TermChoice {
 pub struct EvalOptions {
     /// The terms that are evaluated.
     pub terms: TermChoice,
+    /// The form in which input terms are read.
+    pub input: InputForm,
     /// The step limit of each term.
     pub steps: u64,
     /// The capacity of the store, in cells.
@@ -108,6 +110,7 @@ pub struct Shown<'a> {
 pub fn options_of(matches: &ArgMatches<'_>) -> Option<EvalOptions> {
     Some(EvalOptions {
         terms: choice_of(matches),
+        input: form_by(matches, "terms-table"),
         steps: matches.get_one::<u64>("steps")?.min(MOST_STEPS),
         cells: matches.get_one::<u32>("cells")?.clamp(1, MOST_CELLS),
         memo: number_of(matches, "memo", MEMO).min(MOST_RESULTS),
@@ -162,13 +165,18 @@ pub fn width_of(inner: &ArgMatches<'_>) -> Option<u32> {
     inner.get_one::<u32>("width")
 }
 
-/// Returns the form in which a term is read.
-fn form_of(inner: &ArgMatches<'_>) -> InputForm {
-    if inner.get_flag("from-table") {
+/// Returns the form of an input: a table if the option with this name is given.
+fn form_by(inner: &ArgMatches<'_>, id: &str) -> InputForm {
+    if inner.get_flag(id) {
         InputForm::Table
     } else {
         InputForm::Term
     }
+}
+
+/// Returns the form in which a term is read.
+fn form_of(inner: &ArgMatches<'_>) -> InputForm {
+    form_by(inner, "from-table")
 }
 
 /// Returns the run of `aterm` without `--indent`.

@@ -12,7 +12,7 @@ use rec_run::{
     InputTerms, LimitLines, NoTerms, Observer, Profiler, RunOptions, RunSettings, TermChoice,
     Unwatched, ValueForm, run_given,
 };
-use rx_run::{Ending, RunFault};
+use rx_run::{Ending, InputForm, RunFault};
 use rx_text::Input;
 use std::alloc::Global;
 use std::io::Read;
@@ -101,6 +101,7 @@ fn evaluate<G: InputTerms, P: Profiler + Drop>(
         sizes: false,
         depth: None,
         terms: TermChoice::All,
+        input: InputForm::Term,
     };
     let mut observer = Observer {
         watch: Unwatched,

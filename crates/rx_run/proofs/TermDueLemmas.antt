@@ -17,7 +17,8 @@ use Rattle.rx_run.specs.Bytes.{newlines}
 use Rattle.rx_run.specs.Due.{Due, done, refused}
 use Rattle.rx_run.specs.Refusals.{ending_of, name_of, place_by, refusal_due, refused_text, word_of}
 use Rattle.rx_run.specs.TermRuns.{IsDueIn, IsElementOf, IsTermHeld, IsUnrooted, NamesElement, cells_line, due_at, due_in, due_of, due_of_table, lines_at, table_due}
-use Rattle.rx_run.specs.Inner.TermReadings.{IsGivenIn, IsReadingIn, IsTableReason, counted_lines}
+use Rattle.rx_run.specs.Readings.{IsReadingIn, IsTableReason}
+use Rattle.rx_run.specs.Inner.TermReadings.{IsGivenIn, counted_lines}
 use Rattle.rx_run.specs.declared.ending.Source.{Source}
 use Rattle.rx_run.specs.declared.ending.Source.TheVariants as source
 use Rattle.rx_run.specs.declared.refusal.Ending.{Ending}
@@ -67,7 +68,7 @@ table_opened : (lines : Tree → List ℕ) (t u : Tree) → tree_of_table t ≡ 
 table_opened lines t u e = rw (opens-no-rule t u e, e) refl
 
 -- what is due for what a text came to is so after the verdict on it
-due_after : (form : InputForm) (lines : Tree → List ℕ) (w : Store) (r : Reading Term) (v : Verdict) → IsReadingIn form w r v
+due_after : (form : InputForm) (lines : Tree → List ℕ) (w : Store) (r : Reading Term) (v : Verdict) → IsReadingIn source.Term form w r v
     → due_at lines w r ≡ due_in form lines v
 due_after form.Term lines w (Refused r) v e = refused_due lines r v e
 due_after form.Term lines w (Good t) v (u, here, e) = ap (λ o. done (option_map_or lines o [])) here ∙ sym (ap (due_of lines) e)
@@ -98,7 +99,7 @@ text_element bytes TooLong r e = subst (λ (x : Refusal). IsElementOf x.reason b
 text_element bytes (Outside at) r e = subst (λ (x : Refusal). IsElementOf x.reason bytes) (same_refusal (sym e)) tt
 text_element bytes (Spelt t) r e = absurd (cc e)
 
-names_element : (form : InputForm) (w : Store) (r : Reading Term) (v : Verdict) (bytes : List ℕ) → IsReadingIn form w r v → IsVerdict bytes v
+names_element : (form : InputForm) (w : Store) (r : Reading Term) (v : Verdict) (bytes : List ℕ) → IsReadingIn source.Term form w r v → IsVerdict bytes v
     → NamesElement (ending_of r) bytes
 names_element form w (Good t) v bytes e h = tt
 names_element form.Term w (Refused r) v bytes e h = text_element bytes v r e

@@ -1,6 +1,7 @@
 pub mod Bytes
 pub mod Due
 pub mod PatternRuns
+pub mod Readings
 pub mod RefusedItems
 pub mod Refusals
 pub mod Run

@@ -51,7 +51,7 @@ pub use shorthand::{
 };
 pub use streams::{LIMIT, read_all_from};
 pub use term::output::{TermLines, TermOutput, keep_alone};
-pub use term::reading::{InputForm, MOST_CELLS, empty_bank, parse};
+pub use term::reading::{InputForm, MOST_CELLS, empty_bank, parse, parse_input};
 pub use term::runs::{TermRun, print_term, run_on_term, run_on_term_over, share_term};
 pub use writing::{
     put_numbered, put_numbered_to, write_line_to, write_refusal_to, write_steps, write_steps_to,

@@ -53,12 +53,12 @@ pub fn run_given<R: Read, G: InputTerms, W: Write, V: Watch, P: Profiler, S: Rep
         (shown_of settings) settings.options.steps)
         (both_texts (R.remaining spec.old) (G.text terms.old))
         report.ending (W.contents out.old) (W.contents out.new)) }
-    ensures lines { IfOk result (λ report. HasLines settings.terms
+    ensures lines { IfOk result (λ report. HasLines (shown_of settings)
         (both_texts (R.remaining spec.old) (G.text terms.old)) report.lines) }
-    ensures limits { IfOk result (λ report. HasLimitLines settings.terms settings.form
+    ensures limits { IfOk result (λ report. HasLimitLines (shown_of settings)
         settings.options.steps (both_texts (R.remaining spec.old) (G.text terms.old))
         report.limit_lines) }
-    ensures told { IfOk result (λ report. Tells settings.terms S.says settings.options.steps
+    ensures told { IfOk result (λ report. Tells (shown_of settings) S.says settings.options.steps
         (both_texts (R.remaining spec.old) (G.text terms.old))
         (S.told observer.old.reporter) (S.told observer.new.reporter)) }
     ensures fault { IfErr result (λ fault. BreaksFor (IsDueFor
@@ -102,12 +102,12 @@ pub fn run_over<B: TermBank, R: Read, G: InputTerms, W: Write, V: Watch, P: Prof
         (shown_of settings) settings.options.steps)
         (both_texts (R.remaining spec.old) (G.text terms.old))
         report.ending (W.contents out.old) (W.contents out.new)) }
-    ensures lines { IfOk result.end (λ report. HasLines settings.terms
+    ensures lines { IfOk result.end (λ report. HasLines (shown_of settings)
         (both_texts (R.remaining spec.old) (G.text terms.old)) report.lines) }
-    ensures limits { IfOk result.end (λ report. HasLimitLines settings.terms settings.form
+    ensures limits { IfOk result.end (λ report. HasLimitLines (shown_of settings)
         settings.options.steps (both_texts (R.remaining spec.old) (G.text terms.old))
         report.limit_lines) }
-    ensures told { IfOk result.end (λ report. Tells settings.terms S.says settings.options.steps
+    ensures told { IfOk result.end (λ report. Tells (shown_of settings) S.says settings.options.steps
         (both_texts (R.remaining spec.old) (G.text terms.old))
         (S.told observer.old.reporter) (S.told observer.new.reporter)) }
     ensures fault { IfErr result.end (λ fault. BreaksFor (IsDueFor
@@ -158,12 +158,12 @@ fn given_over<B: TermBank, R: Read, G: InputTerms, W: Write, V: Watch, P: Profil
         (shown_of settings) settings.options.steps)
         (both_texts (remaining_in R.remaining spec.old) (G.text terms.old))
         report.ending (contents_of W.contents out.old) (contents_of W.contents out.new)) }
-    ensures lines { IfOk result.end (λ report. HasLines settings.terms
+    ensures lines { IfOk result.end (λ report. HasLines (shown_of settings)
         (both_texts (remaining_in R.remaining spec.old) (G.text terms.old)) report.lines) }
-    ensures limits { IfOk result.end (λ report. HasLimitLines settings.terms settings.form
+    ensures limits { IfOk result.end (λ report. HasLimitLines (shown_of settings)
         settings.options.steps (both_texts (remaining_in R.remaining spec.old) (G.text terms.old))
         report.limit_lines) }
-    ensures told { IfOk result.end (λ report. Tells settings.terms S.says settings.options.steps
+    ensures told { IfOk result.end (λ report. Tells (shown_of settings) S.says settings.options.steps
         (both_texts (remaining_in R.remaining spec.old) (G.text terms.old))
         (S.told observer.old.reporter) (S.told observer.new.reporter)) }
     ensures fault { IfErr result.end (λ fault. BreaksFor (IsDueFor
@@ -188,7 +188,7 @@ fn given_over<B: TermBank, R: Read, G: InputTerms, W: Write, V: Watch, P: Profil
         (G.refused terms.old) (G.refused terms.new) result.end }
     ensures reports { ReportsWrite out.old out.new result.end }
 {
-    match read_given_from(alloc, spec, terms, &mut bank) {
+    match read_given_from(alloc, settings.input, spec, terms, &mut bank) {
         Ok(reading) => answer(Run { alloc, settings }, bank, reading, out, observer),
         Err(fault) => EndedWithin {
             end: Err(fault),

@@ -204,6 +204,7 @@ fn write_own_line<B: TermBank, W: Write, V: Watch, P: Profiler, S: Reporter>(
         sizes: run.settings.sizes,
         depth: run.settings.depth,
         terms: TermChoice::All,
+        input: run.settings.input,
     };
     let run = Run {
         alloc: run.alloc,

@@ -1,13 +1,12 @@
 //! Reads the texts of a run: a specification, and input terms.
 
-ghost use Rattle.std.specs.Prelude.{◌≡◌, ◌≤◌, ℕ, List, IfOk, IfErr, IfSome, IsSome};
+ghost use Rattle.std.specs.Prelude.{◌≡◌, ◌≤◌, IfOk, IfErr, IfSome, IsSome};
 ghost use Rattle.std.specs.Prelude.{OnOk, length, option_map};
 ghost use Rattle.rx_term.specs.Steps.{Grows};
 ghost use Rattle.rx_term.specs.Store.{Store, tree_at};
-ghost use Rattle.rx_text.specs.Grammar.{Spells};
 ghost use Rattle.rx_text.specs.Input.{IsSameInput, remaining_in};
 ghost use Rattle.rec_syntax.specs.Grammar.{SpecText};
-ghost use Rattle.rec_sorts.specs.SpecRules.{Fits, Verdict};
+ghost use Rattle.rec_sorts.specs.SpecRules.{Verdict};
 ghost use Rattle.rec_run.specs.Reading.{IsGood, IsSpecRead, IsSpecReading, KeepsText};
 ghost use Rattle.rx_run.specs.Run.{IsReadOut, RanOut, StopsReading, StopsUnwritten};
 ghost use Rattle.rx_run.specs.Streams.{ReportsRead};
@@ -17,6 +16,7 @@ ghost use Rattle.rec_run.specs.GivenTerms.{
   HoldsList,
   IsJobAfter,
   IsJobRead,
+  IsJudged,
   IsReady,
   IsRefusal,
   IsTermsRead,
@@ -29,7 +29,7 @@ ghost use Rattle.rec_run.specs.GivenTerms.{
 use crate::spec::input_terms::InputTerms;
 use rec_sorts::{Checked, SortFault, TermsFault, check, check_terms};
 use rec_syntax::{Syntax, SyntaxFault, read_owned};
-use rx_run::{Reading, Reason, RunFault, Source, parse, read_all_from};
+use rx_run::{InputForm, Reading, Reason, RunFault, Source, parse_input, read_all_from};
 use rx_term::{Term, TermBank};
 use rx_text::Input;
 use std::alloc::{AllocError, Global};
@@ -76,17 +76,18 @@ fn judge_rules(alloc: Global, syntax: Syntax) -> Result<Reading<Checked>, AllocE
 }
 
 /// Reads a specification from an input and, if it is accepted and input terms are given, their
-/// text. Returns both, with the terms in `bank`, or the error of the rejected text. A reader that
-/// has failed is not used again.
+/// text in this form. Returns both, with the terms in `bank`, or the error of the rejected text. A
+/// reader that has failed is not used again.
 pub fn read_given_from<B: TermBank, R: Read, G: InputTerms>(
     alloc: Global,
+    form: InputForm,
     spec: &mut Input<'_, R>,
     terms: &mut G,
     bank: &mut B,
 ) -> Result<Reading<Job>, RunFault>
     ensures read { IfOk result (λ reading. IfSome
         (both_texts (remaining_in R.remaining spec.old) (G.text terms.old))
-        (λ texts. IsJobRead (B.store bank.new) texts reading)) }
+        (λ texts. IsJobRead form (B.store bank.new) texts reading)) }
     ensures ready { IfOk result (IsReady (B.store bank.new)) }
     ensures out { OnOk result (IsReadOut (remaining_in R.remaining spec.old)
         (remaining_in R.remaining spec.new)) }
@@ -104,7 +105,7 @@ pub fn read_given_from<B: TermBank, R: Read, G: InputTerms>(
         (G.refused terms.old) (G.refused terms.new) result }
 {
     let first = read_spec_text_from(alloc, spec)?;
-    read_after(alloc, first, terms, bank)
+    read_after(alloc, form, first, terms, bank)
 }
 
 /// Reads the text of a specification, and parses and checks it.
@@ -144,12 +145,13 @@ pub fn read_spec_text_from<R: Read>(
 /// Reads the text of the input terms, if there are some and the specification is accepted.
 fn read_after<B: TermBank, G: InputTerms>(
     alloc: Global,
+    form: InputForm,
     first: Reading<Checked>,
     terms: &mut G,
     bank: &mut B,
 ) -> Result<Reading<Job>, RunFault>
     ensures read { IfOk result (λ reading. IfSome (G.text terms.old)
-        (λ given. IsJobAfter (B.store bank.new) given first reading)) }
+        (λ given. IsJobAfter form (B.store bank.new) given first reading)) }
     ensures ready { IfOk result (IsReady (B.store bank.new)) }
     ensures out { OnOk result (IsGood first → G.is_read_out terms.old terms.new) }
     ensures unread { (v : Verdict) → IsSpecReading first v → IsRefusal v
@@ -165,19 +167,20 @@ fn read_after<B: TermBank, G: InputTerms>(
 {
     match first {
         Reading::Refused(refusal) => Ok(Reading::Refused(refusal)),
-        Reading::Good(checked) => read_terms(alloc, checked, terms, bank),
+        Reading::Good(checked) => read_terms(alloc, form, checked, terms, bank),
     }
 }
 
 /// Reads and checks the text of the input terms, if there are some, for a specification.
 fn read_terms<B: TermBank, G: InputTerms>(
     alloc: Global,
+    form: InputForm,
     checked: Checked,
     terms: &mut G,
     bank: &mut B,
 ) -> Result<Reading<Job>, RunFault>
     ensures read { IfOk result (λ reading. IfSome (G.text terms.old)
-        (λ given. IsJobAfter (B.store bank.new) given (Reading.Good checked) reading)) }
+        (λ given. IsJobAfter form (B.store bank.new) given (Reading.Good checked) reading)) }
     ensures ready { IfOk result (IsReady (B.store bank.new)) }
     ensures out { OnOk result (G.is_read_out terms.old terms.new) }
     ensures roots { (B.store bank.new).roots ≡ (B.store bank.old).roots }
@@ -187,17 +190,18 @@ fn read_terms<B: TermBank, G: InputTerms>(
     ensures reports { ReportsReadsBy (G.refused terms.old) (G.refused terms.new) result }
 {
     let text = terms.read_text(alloc)?;
-    judge_given(alloc, checked, text, bank)
+    judge_given(alloc, form, checked, text, bank)
 }
 
 /// Returns the input of an evaluation, from a specification and the text of input terms, if any.
 fn judge_given<B: TermBank>(
     alloc: Global,
+    form: InputForm,
     checked: Checked,
     text: Option<Vec<u8>>,
     bank: &mut B,
 ) -> Result<Reading<Job>, RunFault>
-    ensures read { IfOk result (IsJobAfter (B.store bank.new)
+    ensures read { IfOk result (IsJobAfter form (B.store bank.new)
         (option_map (λ text. text.items) text) (Reading.Good checked)) }
     ensures ready { IfOk result (IsReady (B.store bank.new)) }
     ensures grows { Grows (B.store bank.old) (B.store bank.new) }
@@ -209,7 +213,7 @@ fn judge_given<B: TermBank>(
             list: None,
         })),
         Some(text) => {
-            let reading = judge_terms(alloc, &checked, &text, bank)?;
+            let reading = judge_terms(alloc, form, &checked, &text, bank)?;
             Ok(job_from(checked, reading))
         }
     }
@@ -228,19 +232,21 @@ fn job_from(checked: Checked, reading: Reading<Term>) -> Reading<Job>
     }
 }
 
-/// Parses and checks a text of input terms for an accepted specification.
+/// Parses and checks a text of input terms in this form for an accepted specification.
 fn judge_terms<B: TermBank>(
     alloc: Global,
+    form: InputForm,
     checked: &Checked,
     text: &[u8],
     bank: &mut B,
 ) -> Result<Reading<Term>, RunFault>
-    ensures verdict { IfOk result (IsTermsRead checked.now.spec (B.store bank.new) text.now) }
+    ensures verdict { IfOk result
+        (IsTermsRead form checked.now.spec (B.store bank.new) text.now) }
     ensures holds { IfOk result (HoldsList checked.now.spec (B.store bank.new)) }
     ensures grows { Grows (B.store bank.old) (B.store bank.new) }
     ensures fault { IfErr result (RanOut (B.store bank.old) (B.store bank.new)) }
 {
-    match parse(alloc, Source::Terms, text, bank)? {
+    match parse_input(alloc, Source::Terms, form, text, bank)? {
         Reading::Refused(refusal) => Ok(Reading::Refused(refusal)),
         Reading::Good(list) => judge_list(alloc, checked, bank, list),
     }
@@ -255,8 +261,7 @@ fn judge_list<B: TermBank>(
 ) -> Result<Reading<Term>, RunFault>
     requires { IsSome (tree_at (B.store bank.now) list) }
     ensures verdict { IfOk result (λ reading. IfSome (tree_at (B.store bank.now) list)
-        (λ t. (bytes : List ℕ) → Fits bytes → Spells bytes t
-        → IsTermsRead checked.now.spec (B.store bank.now) bytes reading)) }
+        (λ t. IsJudged checked.now.spec (B.store bank.now) t reading)) }
     ensures holds { IfOk result (HoldsList checked.now.spec (B.store bank.now)) }
     ensures fault { IfErr result (λ fault. fault ≡ RunFault.Memory 0) }
 {

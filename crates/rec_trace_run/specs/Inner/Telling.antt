@@ -30,7 +30,7 @@ use Rattle.rec_trace.specs.States.{firing_then}
 use Rattle.rec_trace.specs.Trace.{Firing, Trace, Traced}
 use Rattle.rec_trace.specs.Tracing.{Stands, rest_of, whole_of}
 use Rattle.rec_trace.specs.declared.tracer.Tracer.{Tracer}
-use Rattle.rec_trace_run.specs.Picks.{Picks, picks_by}
+use Rattle.rec_trace_run.specs.Picks.{Picks}
 use Rattle.rec_trace.specs.Lines.{rule_spot}
 use Rattle.rec_trace_run.specs.Traces.{Shown, picked_lines, shown_by, task_text}
 use Rattle.rec_trace_run.specs.declared.given.GivenTerms.{GivenTerms}

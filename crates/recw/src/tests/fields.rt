@@ -1,6 +1,7 @@
 //! Tests that each option sets its field.
 
 use recw_cli::{Asked, EvalOptions, Request, TermChoice, read_words};
+use rx_run::InputForm;
 use std::alloc::Global;
 use std::process::Abort;
 use std::rt::Files;
@@ -10,14 +11,15 @@ use std::rt::Files;
 type Bounds = (Option<u32>, Option<u64>, Option<u32>, TermChoice);
 
 /// Options; the expected numbers; the expected flags for step counts, annotations of limit lines,
-/// stuck calls, profile, progress, tables and sizes; the limits and the terms.
-type Row = (&'static [&'static str], [u64; 4], [bool; 7], Bounds);
+/// stuck calls, profile, progress, tables, sizes and a table of input terms; the limits and the
+/// terms.
+type Row = (&'static [&'static str], [u64; 4], [bool; 8], Bounds);
 
-const OPTIONS: [Row; 9] = [
+const OPTIONS: [Row; 10] = [
     (
         &["eval"],
         [1_000_000, 16_777_216, 65_536, 262_144],
-        [false, false, false, false, false, false, false],
+        [false, false, false, false, false, false, false, false],
         (None, None, None, TermChoice::All),
     ),
     (
@@ -40,7 +42,7 @@ const OPTIONS: [Row; 9] = [
             "--progress",
         ],
         [11, 12, 13, 14],
-        [true, false, false, true, true, false, false],
+        [true, false, false, true, true, false, false, false],
         (Some(15), Some(16), None, TermChoice::All),
     ),
     (
@@ -57,43 +59,49 @@ const OPTIONS: [Row; 9] = [
             "--bytes=0",
         ],
         [21, 22, 23, 24],
-        [false, true, false, false, false, false, false],
+        [false, true, false, false, false, false, false, false],
         (Some(0), Some(0), None, TermChoice::All),
     ),
     (
         &["eval", "--stuck"],
         [1_000_000, 16_777_216, 65_536, 262_144],
-        [false, false, true, false, false, false, false],
+        [false, false, true, false, false, false, false, false],
         (None, None, None, TermChoice::All),
     ),
     (
         &["eval", "--only-terms", "-e", "z"],
         [1_000_000, 16_777_216, 65_536, 262_144],
-        [false, false, false, false, false, false, false],
+        [false, false, false, false, false, false, false, false],
         (None, None, None, TermChoice::Input),
     ),
     (
         &["eval", "--term", "1000000000000000000"],
         [1_000_000, 16_777_216, 65_536, 262_144],
-        [false, false, false, false, false, false, false],
+        [false, false, false, false, false, false, false, false],
         (None, None, None, TermChoice::Nth(1_000_000_000_000_000_000)),
     ),
     (
         &["eval", "--to-table", "--sizes"],
         [1_000_000, 16_777_216, 65_536, 262_144],
-        [false, false, false, false, false, true, true],
+        [false, false, false, false, false, true, true, false],
+        (None, None, None, TermChoice::All),
+    ),
+    (
+        &["eval", "--terms-table", "a", "b"],
+        [1_000_000, 16_777_216, 65_536, 262_144],
+        [false, false, false, false, false, false, false, true],
         (None, None, None, TermChoice::All),
     ),
     (
         &["eval", "--dot", "5"],
         [1_000_000, 16_777_216, 65_536, 262_144],
-        [false, false, false, false, false, false, false],
+        [false, false, false, false, false, false, false, false],
         (None, None, Some(1000), TermChoice::Nth(5)),
     ),
     (
         &["eval", "--nodes=7", "--dot=1"],
         [1_000_000, 16_777_216, 65_536, 262_144],
-        [false, false, false, false, false, false, false],
+        [false, false, false, false, false, false, false, false],
         (None, None, Some(7), TermChoice::Nth(1)),
     ),
 ];
@@ -112,6 +120,7 @@ fn reaches_its_field<H: Abort + Files>(rt: &H, alloc: Global, row: &Row) {
     };
     let EvalOptions {
         terms,
+        input,
         steps,
         cells,
         memo,
@@ -136,6 +145,7 @@ fn reaches_its_field<H: Abort + Files>(rt: &H, alloc: Global, row: &Row) {
         progress,
         to_table,
         sizes,
+        input == InputForm::Table,
     ];
     assert!(rt;
         found == numbers && said == flags && (depth, bytes, graph, terms) == bounds,

@@ -246,6 +246,62 @@ pub(crate) const FILES: Shelf = Shelf {
     terms: "[s(z",
 };
 
+/// Input terms in a table, which share a part.
+pub(crate) const TABLE: Shelf = Shelf {
+    spec: ADDITION,
+    terms: "[s(z),[plus(<0>,<0>),plus(<0>,z){7}]]",
+};
+
+/// The evaluation of input terms in a table.
+pub(crate) const TABLED: &[Row] = &[
+    (
+        &["eval", "--terms-table", "--count", "spec", "terms"],
+        "",
+        0,
+        "s(s(s(z)))\t3\ns(s(z))\t2\ns(z){7}\t2\n",
+        "",
+    ),
+    (
+        &["eval", "spec", "terms", "--only-terms", "--terms-table"],
+        "",
+        0,
+        "s(s(z))\ns(z){7}\n",
+        "",
+    ),
+    (
+        &["eval", "--terms-table", "--term", "4", "spec", "terms"],
+        "",
+        2,
+        "",
+        "error: there is no term 4\n\nFor more information, try '--help'.\n",
+    ),
+    (&["eval", "spec", "terms"], "", 1, "!terms T2\n", ""),
+];
+
+/// A table with an element that refers to itself.
+pub(crate) const BROKEN: Shelf = Shelf {
+    spec: ADDITION,
+    terms: "[s(z),[plus(<1>,z)]]",
+};
+
+/// The errors of tables of input terms.
+pub(crate) const REFUSED: &[Row] = &[
+    (
+        &["eval", "--terms-table", "spec", "terms"],
+        "",
+        1,
+        "!terms R2\n",
+        "",
+    ),
+    (
+        &["eval", "--terms-table", "spec", "spec"],
+        "",
+        1,
+        "!terms A\n",
+        "recw: terms A at byte 9\n",
+    ),
+];
+
 /// Terms given with `-e`, for a specification in a file. Standard input must not be read.
 pub(crate) const NAMED: &[Row] = &[
     (

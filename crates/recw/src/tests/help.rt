@@ -70,6 +70,7 @@ Arguments:
 
 Options:
   -e, --input <TERM>       Input term instead of TERMS; may be repeated
+      --terms-table        Read TERMS as a table
       --only-terms         Evaluate input terms only, not the EVAL terms
       --term <N>           Evaluate only the N-th term, 1 to 10^18
       --join <FILE>        Specification to join before SPEC; may be repeated

@@ -37,6 +37,11 @@ const WRONG_EVAL: &[&[&str]] = &[
     &["eval", "--term", "0"],
     &["eval", "--term", "1000000000000000001"],
     &["eval", "--term", "1", "--term", "2"],
+    &["eval", "--terms-table"],
+    &["eval", "--terms-table", "a"],
+    &["eval", "--terms-table", "-e", "z"],
+    &["eval", "--terms-table", "a", "b", "-e", "z"],
+    &["eval", "--terms-table", "--terms-table", "a", "b"],
     &["eval", "--only-terms"],
     &["eval", "--only-terms", "--term", "1", "-e", "z"],
     &["eval", "--only-terms", "--only-terms", "-e", "z"],
@@ -77,6 +82,8 @@ const WRONG_TRACE: &[&[&str]] = &[
     &["trace", "-", "--rules", "--rules"],
     &["serve", "a", "--term", "1"],
     &["serve", "a", "--only-terms"],
+    &["serve", "a", "--terms-table"],
+    &["trace", "-", "a", "--terms-table"],
     &["serve", "a", "--to-table", "--bytes", "9"],
     &["trace", "-", "--to-table"],
     &["trace", "-", "--sizes"],
@@ -132,9 +139,6 @@ const WRONG_OTHERS: &[&[&str]] = &[
     &["uses", "--format", "json"],
     &["help", "S12"],
 ];
-
-/// All arguments that are usage errors.
-const WRONG_WORDS: [&[&[&str]]; 3] = [WRONG_EVAL, WRONG_TRACE, WRONG_OTHERS];
 
 /// Checks that these arguments are a usage error, and that nothing is written on standard output.
 fn refuses<H: Abort + Files>(rt: &H, alloc: Global, words: &[&str]) {
@@ -199,8 +203,16 @@ fn refuses_what_is_not_there(rt: HostRuntime) {
 }
 
 #[test]
-fn refuses_words(rt: HostRuntime) {
-    for rows in &WRONG_WORDS {
-        all_refuse(&rt, rt.alloc(), rows);
-    }
+fn refuses_words_of_eval(rt: HostRuntime) {
+    all_refuse(&rt, rt.alloc(), WRONG_EVAL);
+}
+
+#[test]
+fn refuses_words_of_trace_and_serve(rt: HostRuntime) {
+    all_refuse(&rt, rt.alloc(), WRONG_TRACE);
+}
+
+#[test]
+fn refuses_words_of_others(rt: HostRuntime) {
+    all_refuse(&rt, rt.alloc(), WRONG_OTHERS);
 }

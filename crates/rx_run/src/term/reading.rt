@@ -9,8 +9,9 @@ ghost use Rattle.rx_text.specs.Input.{remaining_in};
 ghost use Rattle.rx_shared.specs.State.{IsEmptyStore, store_of};
 ghost use Rattle.rx_run.specs.Run.{IsReadOut, RanOut, StopsUnwritten};
 ghost use Rattle.rx_run.specs.Streams.{ReportsRead};
+ghost use Rattle.rx_run.specs.Readings.{IsReadingOfTable, Parses};
 ghost use Rattle.rx_run.specs.TermRuns.{IsReadingOf};
-ghost use Rattle.rx_run.specs.Inner.TermReadings.{IsGivenIn, IsReadingOfTable, Parses};
+ghost use Rattle.rx_run.specs.Inner.TermReadings.{IsGivenIn};
 ghost use Rattle.rx_run.specs.declared.term.reading.InputForm.TheVariants.{Table};
 
 use crate::ending::{RunFault, Source};
@@ -53,7 +54,7 @@ pub(crate) fn read_term<B: TermBank, R: Read>(
     ensures reports { ReportsRead input.old input.new result }
 {
     let text = read_all_from(alloc, input)?;
-    parse_in(alloc, form, &text, bank)
+    parse_input(alloc, Source::Term, form, &text, bank)
 }
 
 /// Creates an empty store with this capacity. The only error is `Memory`.
@@ -89,19 +90,27 @@ pub fn parse<B: TermBank>(
     }
 }
 
-/// Reads a text in this form into a store.
-fn parse_in<B: TermBank>(
+/// Reads a text in this form into a store. `source` is the input that an error names.
+///
+/// A table is read into a store of its own with up to 2^30 cells, and only its term is made in
+/// `bank`. The time is linear in the text.
+///
+/// # Errors
+///
+/// `Memory` if an allocation failed, `Room` if `bank` is full.
+pub fn parse_input<B: TermBank>(
     alloc: Global,
+    source: Source,
     form: InputForm,
     text: &[u8],
     bank: &mut B,
 ) -> Result<Reading<Term>, RunFault>
-    ensures { Parses form text.now (B.store bank.old) (B.store bank.new) result }
+    ensures { Parses source form text.now (B.store bank.old) (B.store bank.new) result }
 {
     match form {
-        InputForm::Term => parse(alloc, Source::Term, text, bank),
+        InputForm::Term => parse(alloc, source, text, bank),
         InputForm::Table => match empty_bank(alloc, MOST_CELLS) {
-            Ok(tables) => parse_table(alloc, text, tables, bank),
+            Ok(tables) => parse_table(alloc, source, text, tables, bank),
             Err(fault) => Err(fault),
         },
     }
@@ -111,27 +120,29 @@ fn parse_in<B: TermBank>(
 /// store `bank`.
 fn parse_table<B: TermBank + Drop, C: TermBank>(
     alloc: Global,
+    source: Source,
     text: &[u8],
     mut tables: B,
     bank: &mut C,
 ) -> Result<Reading<Term>, RunFault>
     requires limit { (B.store tables).cap ≡ 1073741824 }
-    ensures { Parses Table text.now (C.store bank.old) (C.store bank.new) result }
+    ensures { Parses source Table text.now (C.store bank.old) (C.store bank.new) result }
 {
-    open_text(alloc, text, &mut tables, bank)
+    open_text(alloc, source, text, &mut tables, bank)
 }
 
 /// Reads the text of a table into the store `tables`, and its term into the store `bank`.
 fn open_text<B: TermBank, C: TermBank>(
     alloc: Global,
+    source: Source,
     text: &[u8],
     tables: &mut B,
     bank: &mut C,
 ) -> Result<Reading<Term>, RunFault>
-    ensures { Parses Table text.now (C.store bank.old) (C.store bank.new) result }
+    ensures { Parses source Table text.now (C.store bank.old) (C.store bank.new) result }
 {
-    match parse(alloc, Source::Term, text, tables) {
-        Ok(Reading::Good(t)) => open_term(alloc, tables, t, bank),
+    match parse(alloc, source, text, tables) {
+        Ok(Reading::Good(t)) => open_term(alloc, source, tables, t, bank),
         Ok(Reading::Refused(refusal)) => Ok(Reading::Refused(refusal)),
         Err(_) => Err(RunFault::Memory { lines: 0 }),
     }
@@ -141,21 +152,22 @@ fn open_text<B: TermBank, C: TermBank>(
 /// table.
 fn open_term<B: TermBank, C: TermBank>(
     alloc: Global,
+    source: Source,
     tables: &B,
     t: Term,
     bank: &mut C,
 ) -> Result<Reading<Term>, RunFault>
     requires { IsSome (tree_at (B.store tables.now) t) }
-    ensures read { IfOk result (λ reading. IsReadingOfTable (C.store bank.new) reading
+    ensures read { IfOk result (λ reading. IsReadingOfTable source (C.store bank.new) reading
         (Spelt (held_tree (B.store tables.now) t))) }
     ensures grows { Grows (C.store bank.old) (C.store bank.new) }
     ensures fault { IfErr result (RanOut (C.store bank.old) (C.store bank.new)) }
 {
     match open_table(alloc, tables, t, bank) {
         Ok(term) => Ok(Reading::Good(term)),
-        Err(TableFault::NotTable) => Ok(Reading::refused(Source::Term, Reason::NotTable)),
+        Err(TableFault::NotTable) => Ok(Reading::refused(source, Reason::NotTable)),
         Err(TableFault::Element { number }) => {
-            Ok(Reading::refused(Source::Term, Reason::Element { number }))
+            Ok(Reading::refused(source, Reason::Element { number }))
         }
         Err(TableFault::Full) => Err(RunFault::Room { lines: 0 }),
         Err(TableFault::Memory | TableFault::Long) => Err(RunFault::Memory { lines: 0 }),

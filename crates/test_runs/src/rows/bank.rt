@@ -9,7 +9,7 @@ use rec_run::{
     EndedWithin, LimitLines, NoTerms, RunOptions, RunReport, RunSettings, TermChoice, ValueForm,
     run, run_over, unobserved,
 };
-use rx_run::{Ending, Finish, RunFault};
+use rx_run::{Ending, Finish, InputForm, RunFault};
 use rx_shared::SharedBank;
 use rx_term::TermBank;
 use rx_text::Input;
@@ -89,6 +89,7 @@ fn settings(options: RunOptions) -> RunSettings
         sizes: false,
         depth: None,
         terms: TermChoice::All,
+        input: InputForm::Term,
     }
 }
 

@@ -4,7 +4,7 @@ use crate::rows::depth::forgetful;
 use crate::rows::given::{limits_in, run_with_terms};
 use crate::rows::{addition, options};
 use rec_run::{LimitLines, RunOptions, RunReport, RunSettings, TermChoice, ValueForm};
-use rx_run::{Ending, RunFault};
+use rx_run::{Ending, InputForm, RunFault};
 use std::alloc::Global;
 use std::process::Abort;
 
@@ -58,6 +58,7 @@ fn settings(options: RunOptions, terms: TermChoice) -> RunSettings {
         sizes: false,
         depth: None,
         terms,
+        input: InputForm::Term,
     }
 }
 
@@ -157,6 +158,7 @@ fn expect_deep(rt: &impl Abort, alloc: Global, row: &(TermChoice, Option<u64>, &
         sizes: false,
         depth: Some(2),
         terms: choice,
+        input: InputForm::Term,
     };
     let terms = "[plus(z,s(z)),plus(s(s(z)),z)]";
     let end = match run_chosen(alloc, SUMS, terms, settings, &mut written) {

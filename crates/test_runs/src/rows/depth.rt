@@ -7,7 +7,7 @@ use rec_run::{
     LimitLines, NoTerms, RunOptions, RunSettings, TermChoice, ValueForm, run_given, unobserved,
 };
 use rec_serve::{Deaf, ServeSettings, Session, run_serve};
-use rx_run::{Ending, Finish, RunFault};
+use rx_run::{Ending, Finish, InputForm, RunFault};
 use std::alloc::Global;
 use std::process::Abort;
 
@@ -52,6 +52,7 @@ fn expect_end(rt: &impl Abort, alloc: Global, out: &mut Sink, row: &Ends) {
         sizes: false,
         depth,
         terms: TermChoice::All,
+        input: InputForm::Term,
     };
     let mut spec = bytewise(SUMS);
     let mut observer = unobserved();

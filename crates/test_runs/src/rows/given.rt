@@ -6,7 +6,7 @@ use rec_run::{
     LimitLines, RunOptions, RunReport, RunSettings, TermChoice, ValueForm, refused_term, run_given,
     unobserved,
 };
-use rx_run::{Ending, Finish, Named, Place, RunFault, Source};
+use rx_run::{Ending, Finish, InputForm, Named, Place, RunFault, Source};
 use rx_text::Input;
 use std::alloc::Global;
 use std::io::Read;
@@ -158,6 +158,7 @@ fn expect_annotated(rt: &impl Abort, alloc: Global, row: &Value, form: ValueForm
         sizes: false,
         depth: None,
         terms: TermChoice::All,
+        input: InputForm::Term,
     };
     let end = run_with_terms(alloc, &mut spec, &mut terms, settings, &mut written);
     assert!(rt;

@@ -5,7 +5,7 @@ use crate::rows::streams::{Slow, bytewise, taking};
 use crate::rows::{options, push, push_often};
 use rec_run::{LimitLines, RunReport, RunSettings, TermChoice, ValueForm};
 use rec_serve::{Deaf, ServeSettings, Session, run_serve};
-use rx_run::Ending;
+use rx_run::{Ending, InputForm};
 use std::alloc::Global;
 use std::process::Abort;
 
@@ -75,17 +75,8 @@ static VALUES: [Value; 7] = [
     ),
 ];
 
-/// Aborts the test unless a test case has these lines within eight steps.
-fn expect_lines(rt: &impl Abort, alloc: Global, row: &Value) {
-    let (given, form, counted, sizes, lines) = *row;
-    let settings = RunSettings {
-        options: options(8, counted),
-        limits: LimitLines::Bare,
-        form,
-        sizes,
-        depth: None,
-        terms: TermChoice::All,
-    };
+/// Aborts the test unless the input terms have these lines.
+fn expect_written(rt: &impl Abort, alloc: Global, given: &str, settings: RunSettings, lines: &str) {
     let mut written = Vec::new(alloc);
     let mut spec = TREES.as_bytes();
     let mut terms = given.as_bytes();
@@ -96,10 +87,63 @@ fn expect_lines(rt: &impl Abort, alloc: Global, row: &Value) {
     );
 }
 
+/// Aborts the test unless a test case has these lines within eight steps.
+fn expect_lines(rt: &impl Abort, alloc: Global, row: &Value) {
+    let (given, form, counted, sizes, lines) = *row;
+    let settings = RunSettings {
+        options: options(8, counted),
+        limits: LimitLines::Bare,
+        form,
+        sizes,
+        depth: None,
+        terms: TermChoice::All,
+        input: InputForm::Term,
+    };
+    expect_written(rt, alloc, given, settings, lines);
+}
+
+/// The form in which input terms are read, their text, and the lines.
+type Given = (InputForm, &'static str, &'static str);
+
+static GIVEN: [Given; 6] = [
+    (
+        InputForm::Term,
+        "[dup(node(leaf,leaf)),node(leaf,leaf)]",
+        "node(node(leaf,leaf),node(leaf,leaf))\t1\nnode(leaf,leaf)\t0\n",
+    ),
+    (
+        InputForm::Table,
+        "[node(leaf,leaf),[dup(<0>),<0>]]",
+        "node(node(leaf,leaf),node(leaf,leaf))\t1\nnode(leaf,leaf)\t0\n",
+    ),
+    (InputForm::Table, "f(a)", "!terms R1\n"),
+    (InputForm::Table, "[<0>]", "!terms R2\n"),
+    (InputForm::Table, "[leaf,node(<0>,<0>)]", "!terms T1\n"),
+    (InputForm::Table, "[leaf,[<0>", "!terms A\n"),
+];
+
+/// Aborts the test unless the input terms of a test case have these lines.
+fn expect_given(rt: &impl Abort, alloc: Global, row: &Given) {
+    let (input, given, lines) = *row;
+    let settings = RunSettings {
+        options: options(8, true),
+        limits: LimitLines::Bare,
+        form: ValueForm::Plain,
+        sizes: false,
+        depth: None,
+        terms: TermChoice::Input,
+        input,
+    };
+    expect_written(rt, alloc, given, settings, lines);
+}
+
 #[test]
 fn tables_and_sizes(rt: HostRuntime) {
     for row in &VALUES {
         expect_lines(&rt, rt.alloc(), row);
+    }
+    for row in &GIVEN {
+        expect_given(&rt, rt.alloc(), row);
     }
 }
 
@@ -142,6 +186,7 @@ fn run_doubled(rt: &impl Abort, alloc: Global, given: &str, out: &mut Vec<u8>) {
         sizes: true,
         depth: None,
         terms: TermChoice::Input,
+        input: InputForm::Term,
     };
     let mut spec = TREES.as_bytes();
     let mut terms = given.as_bytes();

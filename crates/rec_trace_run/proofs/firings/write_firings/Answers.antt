@@ -1,4 +1,4 @@
-use Rattle.std.proofs.Common.{[], ◌≡◌, ◌++◌, ◌∙◌, IfOk, List, ap, append-nil, arith, drop, length, refl, subst, sym, ℕ}
+use Rattle.std.proofs.Common.{[], ◌≡◌, ◌++◌, ◌∙◌, IfOk, List, append-nil, arith, drop, length, refl, subst, sym, ℕ}
 use Rattle.std.proofs.lemmas.List.{drop_all}
 use Rattle.rec_syntax.specs.Syntax.{Spec, Term}
 use Rattle.rec_engine.specs.declared.engine.Outcome.{Outcome}

@@ -1,7 +1,7 @@
 use Rattle.std.proofs.Common.{ap, refl, sym, ◌∙◌}
 use Rattle.std.specs.Prelude.{◌||◌}
 use Rattle.rec_trace_run.specs.Inner.Due.{job_traces}
-use Rattle.rec_trace_run.specs.Traces.{IsTraceDueFor, shown_by}
+use Rattle.rec_trace_run.specs.Traces.{IsTraceDueFor, lines_shown, shown_by}
 use Rattle.rx_run.proofs.ErrorLemmas.{on_ok_any}
 use Rattle.rx_run.proofs.FaultLemmas.{reports_unwritten}
 use Rattle.rec_run.proofs.RunEndLemmas.{breaks_run, concludes_run}
@@ -9,7 +9,6 @@ use Rattle.rec_run.proofs.ToldLemmas.{limits-by, lines-by}
 use Rattle.rx_run.proofs.WholeRunLemmas.{breaks_unwritten}
 use Rattle.rec_run.proofs.GivenDueLemmas.{refused_map}
 use Rattle.rec_run.proofs.ReadsLemmas.{reads_over}
-use Rattle.rec_run.specs.declared.options.ValueForm.TheVariants.{Plain}
 use Rattle.rx_run.proofs.ReportLemmas.{unwritten_no_write}
 use Rattle.rec_trace_run.proofs.PageLemmas.{unwritten-full}
 use Rattle.rec_trace_run.proofs.DueLemmas.{due_read, one_trace_due_for}
@@ -66,12 +65,12 @@ returns-in-Err-clause-reports g c =
     (refl, ap (λ b. b || c.args.out.now.refused) (sym (unwritten_no_write old new c.in-Err.fault c.in-Err.ensures.fault)))
 
 pub returns-in-Ok-clause-lines : goal.returns-in-Ok-clause-lines
-returns-in-Ok-clause-lines g c = lines-by c.answer.result.end (g.B.TermBank.store c.read_given_from.new.bank) c.args.setup.options.terms
-    Plain c.args.setup.options.run.steps _ c.in-Ok.reading c.in-Ok.ensures.read c.answer.ensures.counts
+returns-in-Ok-clause-lines g c = lines-by c.answer.result.end (g.B.TermBank.store c.read_given_from.new.bank)
+    (lines_shown (shown_by c.args.setup.options)) c.args.setup.options.run.steps _ c.in-Ok.reading c.in-Ok.ensures.read c.answer.ensures.counts
 
 pub returns-in-Ok-clause-limits : goal.returns-in-Ok-clause-limits
-returns-in-Ok-clause-limits g c = limits-by c.answer.result.end (g.B.TermBank.store c.read_given_from.new.bank) c.args.setup.options.terms
-    Plain c.args.setup.options.run.steps _ c.in-Ok.reading c.in-Ok.ensures.read c.answer.ensures.counts
+returns-in-Ok-clause-limits g c = limits-by c.answer.result.end (g.B.TermBank.store c.read_given_from.new.bank)
+    (lines_shown (shown_by c.args.setup.options)) c.args.setup.options.run.steps _ c.in-Ok.reading c.in-Ok.ensures.read c.answer.ensures.counts
 
 pub returns-in-Err-clause-room : goal.returns-in-Err-clause-room
 returns-in-Err-clause-room g c =

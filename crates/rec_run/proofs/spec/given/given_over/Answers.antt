@@ -26,7 +26,7 @@ returns-in-Ok-clause-ends g c =
     let n = c.args.settings.options.steps in
     let w = g.B.TermBank.store c.read_given_from.new.bank in
     let r = c.in-Ok.reading in
-    concludes_run (IsDueFor shown n) (job_lines w shown n) _ r c.answer.result.end _ _ (due_for w shown n _ r (due_read w _ r c.in-Ok.ensures.read))
+    concludes_run (IsDueFor shown n) (job_lines w shown n) _ r c.answer.result.end _ _ (due_for w shown n _ r (due_read shown.input w _ r c.in-Ok.ensures.read))
     c.answer.ensures.ends c.answer.ensures.ok
 
 pub returns-in-Ok-clause-fault : goal.returns-in-Ok-clause-fault
@@ -36,7 +36,7 @@ returns-in-Ok-clause-fault g c =
     let w = g.B.TermBank.store c.read_given_from.new.bank in
     let r = c.in-Ok.reading in
     breaks_run (IsDueFor shown n) (job_lines w shown n) (one_due_for shown n) _ r c.answer.result.end _ _
-    (due_for w shown n _ r (due_read w _ r c.in-Ok.ensures.read)) c.answer.ensures.err
+    (due_for w shown n _ r (due_read shown.input w _ r c.in-Ok.ensures.read)) c.answer.ensures.err
 
 pub returns-in-Ok-clause-cells : goal.returns-in-Ok-clause-cells
 returns-in-Ok-clause-cells g c = refused_map _ c.answer.ensures.cells c.in-Ok.ensures.refused
@@ -74,17 +74,17 @@ returns-in-Ok-clause-reads g c = reads_over c.args.spec.now c.read_given_from.ne
     c.in-Ok.ensures.reads c.answer.ensures.reports.1
 
 pub returns-in-Ok-clause-told : goal.returns-in-Ok-clause-told
-returns-in-Ok-clause-told g c = tells-by c.args.settings.terms g.S.Reporter.says c.answer.result.end (g.B.TermBank.store c.read_given_from.new.bank)
+returns-in-Ok-clause-told g c = tells-by (shown_of c.args.settings) g.S.Reporter.says c.answer.result.end (g.B.TermBank.store c.read_given_from.new.bank)
     c.args.settings.options.steps _ c.in-Ok.reading (g.S.Reporter.told c.args.observer.now.reporter) (g.S.Reporter.told c.answer.new.observer.reporter)
     c.in-Ok.ensures.read c.answer.ensures.told
 
 pub returns-in-Ok-clause-lines : goal.returns-in-Ok-clause-lines
-returns-in-Ok-clause-lines g c = lines-by c.answer.result.end (g.B.TermBank.store c.read_given_from.new.bank) c.args.settings.terms
-    c.args.settings.form c.args.settings.options.steps _ c.in-Ok.reading c.in-Ok.ensures.read c.answer.ensures.counts
+returns-in-Ok-clause-lines g c = lines-by c.answer.result.end (g.B.TermBank.store c.read_given_from.new.bank) (shown_of c.args.settings)
+    c.args.settings.options.steps _ c.in-Ok.reading c.in-Ok.ensures.read c.answer.ensures.counts
 
 pub returns-in-Ok-clause-limits : goal.returns-in-Ok-clause-limits
-returns-in-Ok-clause-limits g c = limits-by c.answer.result.end (g.B.TermBank.store c.read_given_from.new.bank) c.args.settings.terms
-    c.args.settings.form c.args.settings.options.steps _ c.in-Ok.reading c.in-Ok.ensures.read c.answer.ensures.counts
+returns-in-Ok-clause-limits g c = limits-by c.answer.result.end (g.B.TermBank.store c.read_given_from.new.bank) (shown_of c.args.settings)
+    c.args.settings.options.steps _ c.in-Ok.reading c.in-Ok.ensures.read c.answer.ensures.counts
 
 pub returns-in-Err-clause-bounded : goal.returns-in-Err-clause-bounded
 returns-in-Err-clause-bounded g c =

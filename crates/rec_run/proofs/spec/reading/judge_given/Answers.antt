@@ -9,7 +9,7 @@ returns-in_ok-reading-in-Some-clause-read g c =
     let reading = c.in_ok-reading-in-Some.reading in
     rw c.in-Some.is (
       reading,
-      subst (λ text. IsTermsRead c.args.checked.spec w text reading) c.deref.ensures.value
+      subst (λ text. IsTermsRead c.args.form c.args.checked.spec w text reading) c.deref.ensures.value
           c.in_ok-reading-in-Some.ensures.verdict,
       c.job_from.ensures,
     )

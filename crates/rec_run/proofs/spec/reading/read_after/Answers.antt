@@ -7,7 +7,7 @@ use Rattle.rec_run.proofs.GivenDueLemmas.{refused_first}
 use Rattle.rec_run.proofs.spec.reading.read_after.Goals as goal
 
 pub returns-in-Refused-clause-read : goal.returns-in-Refused-clause-read
-returns-in-Refused-clause-read g c = refused_first (g.B.TermBank.store c.args.bank.now) c.in-Refused.refusal c.args.first _ c.in-Refused.is
+returns-in-Refused-clause-read g c = refused_first c.args.form (g.B.TermBank.store c.args.bank.now) c.in-Refused.refusal c.args.first _ c.in-Refused.is
 
 pub returns-in-Good-clause-read : goal.returns-in-Good-clause-read
 returns-in-Good-clause-read g c = rw c.in-Good.is c.read_terms.ensures.read

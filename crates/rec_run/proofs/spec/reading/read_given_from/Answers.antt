@@ -7,7 +7,7 @@ use Rattle.rec_run.proofs.ReadsLemmas.{reads_first, reads_second}
 use Rattle.rec_run.proofs.spec.reading.read_given_from.Goals as goal
 
 pub returns-clause-read : goal.returns-clause-read
-returns-clause-read g c = read_with (g.B.TermBank.store c.read_after.new.bank) c.read_after.result _ _ c.in_ok-first.first
+returns-clause-read g c = read_with c.args.form (g.B.TermBank.store c.read_after.new.bank) c.read_after.result _ _ c.in_ok-first.first
     c.in_ok-first.ensures.verdict c.in_ok-first.ensures.source c.read_after.ensures.read
 
 pub returns-clause-terms_out : goal.returns-clause-terms_out

@@ -9,7 +9,7 @@ use Rattle.rec_run.proofs.ReadsLemmas.{terms_on, terms_still}
 use Rattle.rec_run.proofs.spec.reading.read_terms.Goals as goal
 
 pub returns-clause-read : goal.returns-clause-read
-returns-clause-read g c = read_given (g.B.TermBank.store c.judge_given.new.bank) c.args.checked c.judge_given.result c.in_ok-text.text _
+returns-clause-read g c = read_given c.args.form (g.B.TermBank.store c.judge_given.new.bank) c.args.checked c.judge_given.result c.in_ok-text.text _
     c.in_ok-text.ensures.text c.judge_given.ensures.read
 
 pub returns-clause-fault : goal.returns-clause-fault

@@ -13,18 +13,18 @@ use Rattle.rx_run.proofs.term.reading.read_term.Goals as goal
 
 pub returns-clause-read : goal.returns-clause-read
 returns-clause-read g c =
-    if_ok_map c.parse_in.result _ _
+    if_ok_map c.parse_input.result _ _
     (λ reading v. (
       v.0,
       v.1,
       verdict_given _ c.in_ok-text.text.items v.0 c.in_ok-text.ensures.text
           (subst (λ text. IsVerdict text v.0) c.deref.ensures.value v.2),
     ))
-    c.parse_in.ensures.read
+    c.parse_input.ensures.read
 
 pub returns-clause-fault : goal.returns-clause-fault
-returns-clause-fault g c = IfErr-weaker c.parse_in.result _ _ (unwritten (g.B.TermBank.store c.args.bank.now) (g.B.TermBank.store c.parse_in.new.bank))
-    c.parse_in.ensures.fault
+returns-clause-fault g c = IfErr-weaker c.parse_input.result _ _ (unwritten (g.B.TermBank.store c.args.bank.now) (g.B.TermBank.store c.parse_input.new.bank))
+    c.parse_input.ensures.fault
 
 pub returns-in_err-text-clause-grows : goal.returns-in_err-text-clause-grows
 returns-in_err-text-clause-grows g c = Grows-refl (g.B.TermBank.store c.args.bank.now)
@@ -32,9 +32,9 @@ returns-in_err-text-clause-grows g c = Grows-refl (g.B.TermBank.store c.args.ban
 pub returns-clause-reports : goal.returns-clause-reports
 returns-clause-reports g c =
     let old = g.B.TermBank.store c.args.bank.now in
-    let new = g.B.TermBank.store c.parse_in.new.bank in
-    let r = c.parse_in.result in
-    read_still c.args.input.now c.read_all_from.new.input r (returns_no is_read (RanOut old new) r (ran_out_no_read old new) c.parse_in.ensures.fault)
+    let new = g.B.TermBank.store c.parse_input.new.bank in
+    let r = c.parse_input.result in
+    read_still c.args.input.now c.read_all_from.new.input r (returns_no is_read (RanOut old new) r (ran_out_no_read old new) c.parse_input.ensures.fault)
     c.in_ok-text.ensures.reports
 
 pub returns-in_err-text-clause-reports : goal.returns-in_err-text-clause-reports
