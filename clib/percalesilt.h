@@ -174,11 +174,10 @@ psilt_code psilt_limit_names(psilt *p, uint32_t most);
 /* The term of a text of len bytes. PSILT_RANGE if it has more than 16,777,216 bytes, PSILT_SYNTAX if it is outside the
  * grammar, PSILT_NOMEM, PSILT_FULL. May add names.
  *
- * These cells are needed: one for each part of the term; one more for each part with annotations, since it is first
- * made without them; and one for `[]` if the text has `{}`. Each counts once, and only if the store does not have it.
- * So in an empty store `a{b}` takes 5 cells, of which `a` is the one that is no part; `f(x){1}` takes 7, of 6 parts;
- * and `1{}` takes 2, of which it leaves `[]`. If fewer are left, PSILT_FULL is returned, also of a term that is there:
- * of `a{b}` if a collection freed `a`. */
+ * These cells are needed: one for each part of the term, and one more for each part with annotations, since it is first
+ * made without them. Each counts once, and only if the store does not have it. So in an empty store `a{b}` takes 5
+ * cells, of which `a` is the one that is no part, and `f(x){1}` takes 7, of 6 parts. If fewer are left, PSILT_FULL is
+ * returned, also of a term that is there: of `a{b}` if a collection freed `a`. */
 psilt_code psilt_read(psilt *p, const uint8_t *text, size_t len, psilt_term *out);
 
 /* Where the text that was refused last leaves its grammar or violates a rule, in bytes from 0; 0 before any was. */
@@ -223,9 +222,8 @@ psilt_code psilt_print_table(psilt *p, psilt_term term, size_t *len);
  * or such a number, its placeholder or such a list has annotations, for which it returns 2 (R2); PSILT_NOMEM;
  * PSILT_FULL. May add names.
  *
- * The text is read into a store of its own, which is freed. In the store of the handle the terms of all elements are
- * made, with the cells that psilt_read needs for them, and the numbers and lists that are in placeholders of the table,
- * which a collection frees. */
+ * The terms of all elements are made, with the cells that psilt_read needs for them; a collection frees what the term
+ * does not use. Numbers in placeholders of the table, and lists around items, take no cells. */
 psilt_code psilt_read_table(psilt *p, const uint8_t *text, size_t len, psilt_term *out);
 
 /* ---- make. Each returns PSILT_STALE if a reference is not valid, and PSILT_NOMEM or PSILT_FULL if the term is not

@@ -19,7 +19,7 @@ _recw_commands=(
 )
 declare -A _recw_options=(
     [eval]='-e=TERM --input=TERM --terms-table --only-terms --term=N --join=FILE --steps=N --cells=C --memo=M --reclaim=K --depth=D --bytes=B --to-table --count --sizes --dot=N --nodes=N --limit-annotations --limit-status --stuck --profile --progress --explain'
-    [serve]='--steps=N --cells=C --memo=M --reclaim=K --depth=D --bytes=B --to-table --count --explain'
+    [serve]='--from-table --steps=N --cells=C --memo=M --reclaim=K --depth=D --bytes=B --to-table --count --explain'
     [trace]='-e=TERM --input=TERM --term=N --steps=N --cells=C --count --whole --width=W --first=N --last=N --rule=LINE:COL --symbol=NAME --rules --explain'
     [aterm]='--explain --indent=N --width=W --from-table --to-table --bytes=B'
     [share]='--explain --dot --nodes=N --from-table --to-table'

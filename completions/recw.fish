@@ -43,6 +43,7 @@ complete -c recw -n '__fish_seen_subcommand_from eval' -l stuck -d 'Report stuck
 complete -c recw -n '__fish_seen_subcommand_from eval' -l profile -d 'Report rule counts and resource use'
 complete -c recw -n '__fish_seen_subcommand_from eval' -l progress -d 'Show progress, also if not on a terminal'
 complete -c recw -n '__fish_seen_subcommand_from eval' -l explain -d 'Explain errors, also if not on a terminal'
+complete -c recw -n '__fish_seen_subcommand_from serve' -l from-table -d 'Read a table on each line, and use its term'
 complete -c recw -n '__fish_seen_subcommand_from serve' -l steps -x -d 'Step limit per term, up to 10^18'
 complete -c recw -n '__fish_seen_subcommand_from serve' -l cells -x -d 'Cells in the store, 1 to 2^30'
 complete -c recw -n '__fish_seen_subcommand_from serve' -l memo -x -d 'Results in memo table, 0 to 2^20'

@@ -1,8 +1,8 @@
 """What release/ holds: its products, how each is made of what was built, and the manifest."""
 
 import glob
-import gzip
 import hashlib
+import lzma
 import os
 import re
 import shutil
@@ -37,6 +37,11 @@ def write(path, data):
 
 def hash_of(data):
     return hashlib.sha256(data).hexdigest()
+
+
+def compressed(data):
+    """The data compressed by xz, which takes a quarter less than `packed`."""
+    return lzma.compress(data, preset=9 | lzma.PRESET_EXTREME)
 
 
 def packed(data):
@@ -164,7 +169,7 @@ class Product:
 
     def __init__(self, name):
         self.name = name
-        self.packed = f"{RELEASE}/{name}.gz"
+        self.packed = f"{RELEASE}/{name}.xz"
         self.origin = self.origin or self.path
 
     def files(self):
@@ -211,9 +216,11 @@ class Shared(Archive):
 class Page(Product):
     path, how, crate = "web/out/recw.html", "web/build, or .ci/run", "recw_wasm"
     further = (
-        *["web/build", "web/*.js", "web/page.*", "web/heap.c", "web/helpers.c", ".ci/archive.py"],
+        *["web/build", "web/*.js", "web/page.*", "web/help.html", "web/heap.c", "web/helpers.c", ".ci/archive.py"],
         *["editors/vscode/rec.tmLanguage.json", "examples/*.rec", "examples/*.trm", "examples/*/*.rec"],
         "crates/recw_cli/src/refusals.rt",
+        "crates/recw/src/expected.rt",
+        "docs/reference/*.md",
     )
     by = ("clang", "wasm-opt")
 
@@ -258,7 +265,7 @@ def holds(known, name):
 def checked(known, name, what, data):
     """The data, if it has the hash that the manifest has for it."""
     if hash_of(data) != known[f"{name}.{what}"]:
-        raise Lacking(f"release/{name}.gz: {what} has the hash {hash_of(data)}, the manifest {known[f'{name}.{what}']}")
+        raise Lacking(f"release/{name}.xz: {what} has the hash {hash_of(data)}, the manifest {known[f'{name}.{what}']}")
     return data
 
 
@@ -267,10 +274,10 @@ def unpacked(name):
     known = manifest()
     if not holds(known, name):
         raise Lacking(f"release/ has no {name}")
-    if not os.path.exists(f"{RELEASE}/{name}.gz"):
-        raise Lacking(f"there is no release/{name}.gz")
-    data = checked(known, name, "packed", read(f"{RELEASE}/{name}.gz"))
-    return checked(known, name, "file", gzip.decompress(data))
+    if not os.path.exists(f"{RELEASE}/{name}.xz"):
+        raise Lacking(f"there is no release/{name}.xz")
+    data = checked(known, name, "packed", read(f"{RELEASE}/{name}.xz"))
+    return checked(known, name, "file", lzma.decompress(data))
 
 
 def lack_of(name):
@@ -278,7 +285,7 @@ def lack_of(name):
     try:
         unpacked(name)
         if PRODUCTS[name].sources() != manifest()[f"{name}.sources"]:
-            raise Lacking(f"release/{name}.gz was made from other sources")
+            raise Lacking(f"release/{name}.xz was made from other sources")
     except Lacking as why:
         return str(why)
     return ""

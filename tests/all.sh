@@ -39,7 +39,7 @@ arguments.py
 links.py
 prose.py
 options.py
-shellcheck -x ../recw ../tools/prove ../tools/sources.sh *.sh ../completions/recw.bash
+shellcheck -x -P .. ../recw ../tools/prove ../tools/sources.sh *.sh ../completions/recw.bash
 END
 
 # Runs the test in a line of the list.

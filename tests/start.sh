@@ -368,13 +368,13 @@ END
 }
 
 pack() {
-    gzip -9n <"$tree/program" >"$tree/release/recw.gz"
+    xz -9 <"$tree/program" >"$tree/release/recw.xz"
     cat >"$tree/release/manifest" <<END
 version 0.1.0
 rt this kit
 recw.sources $(sources_of_tree)
 recw.file $(sum_of "$tree/program")
-recw.packed $(sum_of "$tree/release/recw.gz")
+recw.packed $(sum_of "$tree/release/recw.xz")
 END
 }
 
@@ -457,7 +457,7 @@ make_release 'release compared'
 start --prove
 same 'another program was proved: status' 70 "$status"
 same 'another program was proved: last lines' "recw: proved and built: crates/recw/out/recw has the hash $built
-recw: release/recw.gz holds another program: release/manifest has the hash $(sum_of "$tree/program")" \
+recw: release/recw.xz holds another program: release/manifest has the hash $(sum_of "$tree/program")" \
     "$(tail -n 2 "$room/err")"
 same 'another program was proved: runs of the prover' "$whole" "$(runs)"
 echo 'a later kit' >"$tree/version"
@@ -469,7 +469,7 @@ pack
 start --prove
 same 'the same program was proved: status' 0 "$status"
 same 'the same program was proved: output' '' "$(cat "$room/out")"
-same 'the same program was proved: last line' 'recw: release/recw.gz holds the same program, byte for byte' \
+same 'the same program was proved: last line' 'recw: release/recw.xz holds the same program, byte for byte' \
     "$(tail -n 1 "$room/err")"
 rm -r "$tree/release"
 start --prove
@@ -479,23 +479,23 @@ same 'no release: last line' 'recw: there is no release/ to compare it with' "$(
 # nothing is run whose hash is wrong
 make_release 'release changed'
 start
-wanted=$(sum_of "$tree/release/recw.gz")
+wanted=$(sum_of "$tree/release/recw.xz")
 sleep 0.02
-printf X | dd of="$tree/release/recw.gz" bs=1 seek=30 conv=notrunc status=none
+printf X | dd of="$tree/release/recw.xz" bs=1 seek=30 conv=notrunc status=none
 start
 same 'the packed program was changed: status' 70 "$status"
 same 'the packed program was changed: output' '' "$(cat "$room/out")"
-same 'the packed program was changed: line' "recw: release/recw.gz is not run: \
-it has the hash $(sum_of "$tree/release/recw.gz"), release/manifest has $wanted" "$(cat "$room/err")"
+same 'the packed program was changed: line' "recw: release/recw.xz is not run: \
+it has the hash $(sum_of "$tree/release/recw.xz"), release/manifest has $wanted" "$(cat "$room/err")"
 pack
 start
 packed_ran 'packed anew' ''
-printf '#!/bin/sh\necho worse\n' | gzip -9n >"$tree/release/recw.gz"
-sed -i "s/^recw.packed .*/recw.packed $(sum_of "$tree/release/recw.gz")/" "$tree/release/manifest"
+printf '#!/bin/sh\necho worse\n' | xz -9 >"$tree/release/recw.xz"
+sed -i "s/^recw.packed .*/recw.packed $(sum_of "$tree/release/recw.xz")/" "$tree/release/manifest"
 start
 same 'another program is packed: status' 70 "$status"
-same 'another program is packed: line' "recw: release/recw.gz is not run: the unpacked program has the hash \
-$(gzip -dc <"$tree/release/recw.gz" | sha256sum | cut -d ' ' -f 1), release/manifest has $(sum_of "$tree/program")" \
+same 'another program is packed: line' "recw: release/recw.xz is not run: the unpacked program has the hash \
+$(xz -dc <"$tree/release/recw.xz" | sha256sum | cut -d ' ' -f 1), release/manifest has $(sum_of "$tree/program")" \
     "$(cat "$room/err")"
 same 'another program is packed: nothing is left' 'recw stamp' "$(cd "$tree/crates/recw/out/release" && echo *)"
 
@@ -535,18 +535,18 @@ if command -v python3 >/dev/null; then
     cp "$tree/program" "$tree/crates/recw/out/recw"
     check_release
     same 'the same was built: status' 0 "$status"
-    same 'the same was built: line' 1 "$(grep -c '^release/recw.gz is crates/recw/out/recw, byte for byte' "$room/out")"
+    same 'the same was built: line' 1 "$(grep -c '^release/recw.xz is crates/recw/out/recw, byte for byte' "$room/out")"
     echo '# changed' >>"$tree/crates/recw/out/recw"
     check_release
     same 'another one was built: status' 1 "$status"
     same 'another one was built: lines' "release: release/ is not current:
-  release/recw.gz has the hash $(sum_of "$tree/program"), and crates/recw/out/recw $(sum_of "$tree/crates/recw/out/recw")
+  release/recw.xz has the hash $(sum_of "$tree/program"), and crates/recw/out/recw $(sum_of "$tree/crates/recw/out/recw")
   renew release/ by packaging/release" "$(cat "$room/err")"
     cp "$tree/program" "$tree/crates/recw/out/recw"
     echo edited >"$tree/crates/low/src/lib.rt"
     check_release
     same 'other sources: status' 1 "$status"
-    same 'other sources: line' 1 "$(grep -c 'release/recw.gz was made from other sources' "$room/err")"
+    same 'other sources: line' 1 "$(grep -c 'release/recw.xz was made from other sources' "$room/err")"
 fi
 
 [ "$failures" -eq 0 ] || exit 1

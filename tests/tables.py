@@ -2,9 +2,9 @@
 """Compares the tables of `recw` with a second description of tables: tables.py [PROGRAM].
 
 Here a term is a tree, a part of it is known by its text, and a table is written and read by recursion. The terms and
-tables are random, 20,000 in all; a quarter of the tables are wrong. `eval` gets many terms at a time, as a text and as
-a table; each other command is run over many files by one shell. At the end come terms that are far larger than their
-tables.
+tables are random, 30,000 in all; a quarter of the tables are wrong. `eval` gets many terms at a time, as a text and as
+a table, and `serve` many tables; each other command is run over many files by one shell. At the end come terms that are
+far larger than their tables.
 """
 
 import random
@@ -29,6 +29,8 @@ COUNTS = {
 RUNS, TERMS = 40, 200
 # How many tables of input terms are tried.
 GIVEN = 1000
+# How many sessions are tried, and how many requests each has.
+SESSIONS, REQUESTS = 300, 30
 # Names as they are printed, some of which are longer than a number of an element.
 NAMES = ["a", "f", "pair", "longer-name.x", "seven_7", "nine_byte", '"f"', '"q\\"\\\\\\n"', '"\\377\\000"', '""', ""]
 INTEGERS = [0, 1, -1, 7, 12345678, 123456789, 2147483647, -2147483648]
@@ -42,6 +44,13 @@ DOUBLE = """REC-SPEC D SORTS N T CONS z : -> N s : N -> N leaf : -> T node : T T
 OPNS d : N -> T twice : T -> T VARS X : N Y : T
 RULES d(z) -> leaf d(s(X)) -> twice(d(X)) twice(Y) -> node(Y,Y) END-SPEC
 """
+# The sort of each of its symbols, and the sorts of the arguments.
+SYMBOLS = {
+    **{"z": ("N", ""), "s": ("N", "N"), "leaf": ("T", ""), "node": ("T", "TT")},
+    **{"d": ("T", "N"), "twice": ("T", "T")},
+}
+# The longest value of a request that is tried, in bytes.
+LARGE = 5000
 # Texts that are no terms, no tables, and tables with a wrong placeholder.
 REFUSED = {
     "A": ["", "[a", "[a,<>]", "[a,<0,0>]", "[a,<2147483648>]", "[a,<-2147483649>]"],
@@ -79,6 +88,10 @@ class Tree:
 
 class Wrong(Exception):
     """A term is no table, by the rule that is named."""
+
+
+class Large(Exception):
+    """A value is too long for a test."""
 
 
 class Case(NamedTuple):
@@ -322,6 +335,123 @@ def table_of_values(chance):
     return Tree("list", "", [*elements, Tree("list", "", [number_of(chance, len(elements)), *calls])])
 
 
+# ---- sessions
+
+
+def subterms(tree):
+    """The term and all terms in it that are not in annotations."""
+    return [tree, *(part for it in tree.items for part in subterms(it))]
+
+
+def broken_rule(tree):
+    """The lowest-numbered rule that a request breaks, by docs/reference/rec.md; None if it breaks none."""
+    parts = subterms(tree)
+    if any(it.kind != "application" for it in parts):
+        return "T2"
+    if any(it.notes for it in parts[1:]):
+        return "T3"
+    if any(it.head not in SYMBOLS for it in parts):
+        return "T4"
+    if any(len(it.items) != len(SYMBOLS[it.head][1]) for it in parts):
+        return "T5"
+    wanted = [(one.head, sort) for it in parts for one, sort in zip(it.items, SYMBOLS[it.head][1])]
+    return "T6" if any(SYMBOLS[name][0] != sort for name, sort in wanted) else None
+
+
+def twice(tree):
+    """The value of a call of `twice`."""
+    if len(tree.text) > LARGE:
+        raise Large
+    return Tree("application", "node", [tree, tree])
+
+
+def value_of(tree):
+    """The value of a term by the specification above, and the steps to it."""
+    found = [value_of(it) for it in tree.items]
+    items, steps = [it for it, _ in found], sum(spent for _, spent in found)
+    if tree.head == "twice":
+        return twice(items[0]), steps + 1
+    if tree.head != "d":
+        return Tree("application", tree.head, items), steps
+    tree, number = Tree("application", "leaf"), items[0]
+    while number.head == "s":
+        tree, number, steps = twice(tree), number.items[0], steps + 2
+    return tree, steps + 1
+
+
+def response(tree, steps, as_table):
+    """The response to a table within so many steps."""
+    try:
+        tree = term_of(tree)
+    except Wrong as fault:
+        return f"!term {fault}"
+    if rule := broken_rule(tree):
+        return f"!term {rule}"
+    found, spent = value_of(tree)
+    if spent > steps:
+        return f"!limit {steps}"
+    found = Tree(found.kind, found.head, found.items, tree.notes)
+    return f"{table(found) if as_table else found.text}\t{spent}"
+
+
+def call(chance, sorts, sort, depth):
+    """A random element of this sort after elements of these sorts, which is now and then of another one."""
+    sort = chance.choice("NT") if chance.random() < 0.02 else sort
+    known = [number for number, it in enumerate(sorts) if it == sort]
+    if known and chance.random() < 0.4:
+        return Tree("placeholder", "", [Tree("integer", chance.choice(known))])
+    name = chance.choice([name for name, (of, wanted) in SYMBOLS.items() if of == sort and (depth or not wanted)])
+    wanted = SYMBOLS[name][1]
+    if chance.random() < 0.01:
+        wanted = chance.choice([wanted + "N", wanted[1:]])
+    return Tree("application", name, [call(chance, sorts, it, depth - 1) for it in wanted])
+
+
+def table_of_calls(chance):
+    """A table of a call of the specification above, of which some are wrong."""
+    sorts, elements = [], []
+    for _ in range(chance.randrange(1, 6)):
+        sort, count = chance.choice("NTT"), len(sorts)
+        it = call(chance, sorts, sort, chance.randrange(4))
+        if chance.random() < 0.3 and it.kind == "application":
+            it = Tree(it.kind, it.head, it.items, [element(chance, count, 1)])
+        elements.append(element(chance, count, 2) if chance.random() < 0.06 else it)
+        sorts.append(sort)
+    return Tree("list", "", elements)
+
+
+def request(chance, steps, as_table):
+    """A random request, and the response to it."""
+    while True:
+        tree = table_tree(chance) if chance.random() < 0.2 else table_of_calls(chance)
+        try:
+            line = response(tree, steps, as_table)
+        except Large:
+            continue
+        if chance.random() < 0.05 and tree.kind == "list" and not tree.notes:
+            # The brackets around the list are left open.
+            return tree.text[: chance.randrange(len(tree.text))], "!term A"
+        if max(len(tree.text), len(line)) < LARGE:
+            return tree.text, line
+
+
+def compare_sessions(chance, folder):
+    """Compares sessions whose requests are tables, and counts the kinds of responses."""
+    spec = write_file(f"{folder}/double.rec", DOUBLE)
+    kinds = Counter()
+    for number in range(SESSIONS):
+        steps, as_table = chance.choice((0, 1, 4, 10, 1000)), chance.random() < 0.4
+        asked = [request(chance, steps, as_table) for _ in range(REQUESTS)]
+        words = ["serve", "--from-table", "--count", "--steps", str(steps), *(["--to-table"] if as_table else [])]
+        text = "".join(f"{it}\n" for it, _ in asked)
+        status, found, errors = recw(*words, spec, input=text)
+        check(f"session {number}", (0, "", len(asked)), (status, errors, found.count("\n")))
+        for (it, line), one in zip(asked, found.splitlines()):
+            check(f"request {it}, {steps} steps", line, one)
+            kinds[line.split()[-1] if line.startswith("!term") else "limit" if line.startswith("!") else "value"] += 1
+    return kinds
+
+
 # ---- hard cases
 
 
@@ -346,6 +476,9 @@ def compare_large(folder):
         twice = doubling("node(leaf,leaf)", height)
         found = recw("eval", "--terms-table", "--to-table", spec, given)
         check(f"2^{height} leaves: input terms", (0, f"{wanted}\n{twice}\n", ""), found)
+        text = f"{doubling('leaf', height)}\n{doubling('leaf', height)[:-1]},twice(<{height}>)]\nz"
+        found = recw("serve", "--from-table", "--to-table", spec, input=text)
+        check(f"2^{height} leaves: requests", (0, f"{wanted}\n{twice}\n!term R1\n", ""), found)
     many = f"[pair(a,b),f({','.join(['<0>'] * 1_000_000)})]"
     file = write_file(f"{folder}/many", many)
     check_long("a million references", (0, f"{many}\n", ""), recw("aterm", "--from-table", "--to-table", file))
@@ -363,8 +496,11 @@ def compare_refused(folder):
                 check(f"{' '.join(words)}: {code}", f"!term {code}\nstatus 1\n" * len(texts), found)
         found = run_files(folder, ("eval", "--terms-table", spec), texts)
         check(f"eval --terms-table: {code}", f"!terms {code}\nstatus 1\n" * len(texts), found)
+        found = recw("serve", "--from-table", spec, input="".join(f"{it}\n" for it in texts))
+        check(f"serve --from-table: {code}", (0, f"!term {code}\n" * len(texts), ""), found)
     long = write_file(f"{folder}/long", f"[{' ' * LONGEST}a]")
     check("a long text", (1, "!term L1\n", ""), recw("aterm", "--from-table", long))
+    check("a long request", (0, "!term L1\n", ""), recw("serve", "--from-table", spec, long))
 
 
 def main():
@@ -375,9 +511,11 @@ def main():
     with tempfile.TemporaryDirectory() as folder:
         compare_values(chance, folder)
         compare_given(chance, folder)
+        responses = compare_sessions(chance, folder)
         compare_large(folder)
         compare_refused(folder)
-    print(f"tables.py: {passed()} of {len(TRIED)} as wanted, {dict(rejected)}, {time.monotonic() - begin:.0f} s")
+    kinds = f"{dict(rejected)}, {dict(responses)}"
+    print(f"tables.py: {passed()} of {len(TRIED)} as wanted, {kinds}, {time.monotonic() - begin:.0f} s")
     raise SystemExit(1 if FAILURES else 0)
 
 

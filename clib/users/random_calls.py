@@ -644,15 +644,15 @@ class Run:
     def made_part(self, part: Part, earlier: Sequence[Number]) -> Number:
         """The reference of what is spelt in an element, whose nodes come into the model."""
         kind, value, inside, notes = part
-        # what is in a placeholder is made too: a number, or a list of one item
-        given = [self.made_part(it, earlier) for it in inside]
         number = number_in(part)
         if number is not None:
             return earlier[number]
+        # of the list in a placeholder only the item is made
+        given = [self.made_part(it, earlier) for it in (inside[0][2] if kind == HOLE else inside)]
         if kind == INT:
             made = self.gives("int", lambda: (INT, value, (), None), (value,))
         elif kind == HOLE:
-            inner = self.model.at[given[0]][2][0]
+            inner = given[0]
             made = self.gives("hole", lambda: (HOLE, None, (inner,), None), (inner,))
         else:
             made = self.applied(value[0], value[1], given) if kind == APPL else self.learnt(given)

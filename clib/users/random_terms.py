@@ -124,11 +124,10 @@ def names_of(tree: Tree, found: Set[Name]) -> Set[Name]:
     return found
 
 
-def taken_by(tree: Tree, has_braces: bool) -> Set[Tree]:
-    """The trees whose cells reading a text takes: a part with annotations is first made without them, and `{}` makes
-    `[]`."""
+def taken_by(tree: Tree) -> Set[Tree]:
+    """The trees whose cells reading a text takes: a part with annotations is first made without them."""
     parts = parts_of(tree, set())
-    return parts | {noted(it, ()) for it in parts if it[3]} | ({listed(())} if has_braces else set())
+    return parts | {noted(it, ()) for it in parts if it[3]}
 
 
 def spelt(byte: int) -> bytes:
@@ -465,8 +464,6 @@ class Caller:
 
     def __init__(self, seed: int, shared: List[Shared]) -> None:
         self.dice, self.shared, self.calls, self.left = random.Random(seed), shared, 0, 0
-        # whether `{}` was spelt
-        self.has_braces = False
 
     def run(self, count: int) -> None:
         self.left = count
@@ -558,7 +555,6 @@ class Caller:
             if inside or text == b"" or self.dice.random() < 0.1:
                 text += b"(" + items + b")"
         if annotations or self.dice.random() < 0.05:
-            self.has_braces |= not annotations
             text += self.layout() + b"{" + between.join(map(self.some_text, annotations)) + b"}"
         return self.layout() + text + self.layout()
 
@@ -589,9 +585,8 @@ class Caller:
     def limits(self) -> None:
         """A text is read if there are just as many cells and names as it takes, and else not."""
         tree = self.some_tree(3)
-        self.has_braces = False
         text = self.some_text(tree)
-        cells, names = len(taken_by(tree, self.has_braces)), len(names_of(tree, set()))
+        cells, names = len(taken_by(tree)), len(names_of(tree, set()))
         self.count(4)
         with Store(cells, names=names) as store:
             term = store.parse(text)

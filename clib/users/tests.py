@@ -293,8 +293,8 @@ class Terms(WithStore):
             self.fails(FULL, store.reserve, 1)
 
     def test_cells_that_reading_takes(self) -> None:
-        """A part with annotations is first made without them, and `{}` makes `[]`."""
-        for text, taken, parts in (("a{b}", 5, 4), ("f(x){1}", 7, 6), ("1{}", 2, 1), ("[a]{b}", 6, 5), ("a{a}", 4, 4)):
+        """A part with annotations is first made without them."""
+        for text, taken, parts in (("a{b}", 5, 4), ("f(x){1}", 7, 6), ("[a{}]", 3, 3), ("[a]{b}", 6, 5), ("a{a}", 4, 4)):
             with Store(cells=taken) as store:
                 term = store.parse(text)
                 self.assertEqual(store.cells, taken)
@@ -387,13 +387,13 @@ class Tables(WithStore):
         self.assertRaises(TypeError, self.store.parse_table, 7)
 
     def test_limits_of_tables(self) -> None:
-        with Store(cells=10, names=4) as store:
+        with Store(cells=9, names=4) as store:
             term = store.parse_table("[pair(a,b),f(<0>,<0>)]")
-            self.assertEqual((store.cells, store.names, str(term)), (10, 4, "f(pair(a,b),pair(a,b))"))
+            self.assertEqual((store.cells, store.names, str(term)), (9, 4, "f(pair(a,b),pair(a,b))"))
             self.fails(FULL, store.parse_table, "[new,a]")
             self.fails(FULL, store.parse_table, "[7]")
             self.assertEqual(store.names, 4)
-            # the number of the element is freed
+            # the numbers of elements take no cells
             store.reclaim()
             self.assertEqual(store.cells, 9)
         self.fails(CLOSED, term.table)

@@ -9,7 +9,8 @@ ghost use Rattle.rx_term.specs.Store.{tree_at, signature_of, longer, applied, he
 ghost use Rattle.rx_term.specs.Store.{cells};
 ghost use Rattle.rx_term.specs.Steps.{MakesOrRefuses, ReservesOrRefuses, Grows};
 ghost use Rattle.rx_term.specs.Steps.{ProtectsOrRefuses, Reclaims, with_count};
-ghost use Rattle.rx_term.specs.Walks.{AllHeld, HaveTrees, held_tree};
+ghost use Rattle.rx_term.specs.Walks.{AllHeld, HaveTrees};
+ghost use Rattle.rx_text.specs.Answer.{AreNodesOf, AreProperNodes};
 ghost use Rattle.rx_text.specs.Verdict.{IsVerdict, Spelt, Outside, TooLong};
 ghost use Rattle.rx_text.specs.Faults.{IsOfText};
 ghost use Rattle.rx_table.specs.Errors.{IsOfOpening};
@@ -25,9 +26,9 @@ use indexmap::IndexSet;
 use rec_engine::Prepared;
 use rx_pattern::{MakeFault, Pattern, PatternFault};
 use rx_shared::SharedBank;
-use rx_table::{TableFault, open_table};
+use rx_table::{TableFault, open_nodes};
 use rx_term::{BankFault, RootsFull, Symbol, Term, TermBank};
-use rx_text::{TextFault, read};
+use rx_text::{Node, TextFault, read};
 use std::alloc::Global;
 use std::marker::Model;
 
@@ -223,21 +224,23 @@ impl Bank {
         read(alloc, text, &mut self.shared)
     }
 
-    /// Returns the term of a table in another store. `Memory` also if a symbol may not be added.
-    pub(crate) fn open_table(
+    /// Returns the term of a table from the nodes of its text. `Memory` also if a symbol may not be
+    /// added.
+    pub(crate) fn open_nodes(
         &mut self,
         alloc: Global,
-        from: &SharedBank,
-        t: Term,
+        text: &[u8],
+        nodes: &[Node],
     ) -> Result<Term, TableFault>
-        requires { IsSome (tree_at (terms_of from.now) t) }
+        requires nodes { (t : Tree) × AreNodesOf text.now nodes.now t }
+        requires proper { AreProperNodes text.now nodes.now }
         ensures held { IfOk result (λ r. IsSome (tree_at (store_of self.new) r)) }
-        ensures opened { IfOk result (λ r. tree_at (store_of self.new) r
-            ≡ tree_of_table (held_tree (terms_of from.now) t)) }
+        ensures opened { IfOk result (λ r. (t : Tree) → AreNodesOf text.now nodes.now t
+            → tree_at (store_of self.new) r ≡ tree_of_table t) }
         ensures not_table { IsErrOf result TableFault.NotTable
-            → broken_by_table (held_tree (terms_of from.now) t) ≡ Some 1 }
+            → (t : Tree) → AreNodesOf text.now nodes.now t → broken_by_table t ≡ Some 1 }
         ensures rule { (n : ℕ) → IsErrOf result (TableFault.Element n)
-            → broken_by_table (held_tree (terms_of from.now) t) ≡ Some 2 }
+            → (t : Tree) → AreNodesOf text.now nodes.now t → broken_by_table t ≡ Some 2 }
         ensures full { IsErrOf result TableFault.Full
             → cells (store_of self.new) ≡ (store_of self.new).cap }
         ensures opening { IfErr result IsOfOpening }
@@ -245,7 +248,7 @@ impl Bank {
         ensures beside { IsSameButTerms self.old self.new }
     {
         self.shared.allow(self.most_names);
-        open_table(alloc, from, t, &mut self.shared)
+        open_nodes(alloc, text, nodes, &mut self.shared)
     }
 
     /// Returns whether a pattern matches a term, and makes references of its bindings.

@@ -15,7 +15,7 @@ use rx_text::{TextFault, read};
 use std::alloc::Global;
 
 /// The largest length of a text, in bytes.
-pub(crate) const LONGEST: usize = 16_777_216;
+const LONGEST: usize = 16_777_216;
 
 /// Why a text is rejected as a pattern.
 #[derive(Clone, Copy, Debug, Drop)]

@@ -3,7 +3,8 @@
 ghost use Rattle.std.specs.Prelude.{◌≡◌, ◌++◌, Err, IfSome, IsSome, OnOk};
 ghost use Rattle.rx_term.specs.Store.{tree_at};
 ghost use Rattle.rx_term.specs.Steps.{Grows};
-ghost use Rattle.rx_term.specs.Walks.{held_tree};
+ghost use Rattle.rx_term.specs.Tree.{Tree};
+ghost use Rattle.rx_text.specs.Answer.{AreNodesOf, AreProperNodes};
 ghost use Rattle.rx_text.specs.Canon.{canon};
 ghost use Rattle.rx_table.specs.Table.{table};
 ghost use Rattle.rx_shared.specs.State.{store_of as terms_in};
@@ -13,13 +14,11 @@ ghost use Rattle.psilt_core.specs.Answers.{Spells};
 ghost use Rattle.psilt_core.specs.Tables.{OpensTable, ReadsTable, table_in};
 ghost use Rattle.psilt_core.specs.Works.{IsSameButRead, IsSameButText, KeepsRefusal};
 
-use crate::spelling::LONGEST;
-use crate::work::MOST_CELLS;
 use crate::{Fault, Work};
 use rx_shared::SharedBank;
 use rx_table::{TableFault, write_table_to};
 use rx_term::{Term, TermBank};
-use rx_text::{Output, TextFault, WriteFault, read};
+use rx_text::{Node, Output, TextFault, WriteFault, parse};
 use std::alloc::Global;
 
 /// Prints the table of a term to a text.
@@ -63,8 +62,7 @@ impl Work {
     /// work; `Rule` if it violates a rule of tables, which is stored in the work: 1 if it is not a
     /// list without annotations that has an element, otherwise 2 if a placeholder is neither the
     /// number of an earlier element nor a list of one item; `Full` if all cells are in use, or if a
-    /// name is new and the number of names is at its limit. The table itself takes no cells of the
-    /// work.
+    /// name is new and the number of names is at its limit. Only the term takes cells of the work.
     pub fn read_table(&mut self, alloc: Global, text: &[u8]) -> Result<Term, Fault>
         ensures answer { ReadsTable self.old.bank.most_names (store_of self.old.bank)
             (store_of self.new.bank) text.now self.new.place self.new.rule result }
@@ -73,49 +71,8 @@ impl Work {
         ensures place { result ≡ Err Rule → self.new.place ≡ self.old.place }
         ensures beside { IsSameButRead self.old self.new }
     {
-        if text.len() > LONGEST {
-            return Err(Fault::Range);
-        }
-        match SharedBank::new(alloc, MOST_CELLS) {
-            Ok(own) => self.read_table_over(alloc, text, own),
-            Err(_) => Err(Fault::Memory),
-        }
-    }
-
-    /// Returns the term of the table that a text spells. The table is read over this store, which
-    /// is freed.
-    fn read_table_over(
-        &mut self,
-        alloc: Global,
-        text: &[u8],
-        mut own: SharedBank,
-    ) -> Result<Term, Fault>
-        ensures answer { ReadsTable self.old.bank.most_names (store_of self.old.bank)
-            (store_of self.new.bank) text.now self.new.place self.new.rule result }
-        ensures grows { Grows (store_of self.old.bank) (store_of self.new.bank) }
-        ensures refusal { KeepsRefusal self.old self.new result }
-        ensures place { result ≡ Err Rule → self.new.place ≡ self.old.place }
-        ensures beside { IsSameButRead self.old self.new }
-    {
-        self.read_table_in(alloc, text, &mut own)
-    }
-
-    /// Returns the term of the table that a text spells. The table is read over this store.
-    fn read_table_in(
-        &mut self,
-        alloc: Global,
-        text: &[u8],
-        own: &mut SharedBank,
-    ) -> Result<Term, Fault>
-        ensures answer { ReadsTable self.old.bank.most_names (store_of self.old.bank)
-            (store_of self.new.bank) text.now self.new.place self.new.rule result }
-        ensures grows { Grows (store_of self.old.bank) (store_of self.new.bank) }
-        ensures refusal { KeepsRefusal self.old self.new result }
-        ensures place { result ≡ Err Rule → self.new.place ≡ self.old.place }
-        ensures beside { IsSameButRead self.old self.new }
-    {
-        match read(alloc, text, own) {
-            Ok(t) => self.open_table(alloc, own, t),
+        match parse(alloc, text) {
+            Ok(nodes) => self.open_nodes(alloc, text, &nodes),
             Err(TextFault::Long) => Err(Fault::Range),
             Err(TextFault::Grammar { at }) => {
                 self.place = at;
@@ -123,23 +80,25 @@ impl Work {
                 Err(Fault::Syntax)
             }
             Err(TextFault::Memory) => Err(Fault::Memory),
-            Err(TextFault::Full) => Err(Fault::Memory),
+            Err(TextFault::Full) => unreachable!(),
         }
     }
 
-    /// Returns the term of a table in another store. The number of a violated rule is stored in the
-    /// work.
-    fn open_table(&mut self, alloc: Global, from: &SharedBank, t: Term) -> Result<Term, Fault>
-        requires { IsSome (tree_at (terms_in from.now) t) }
-        ensures answer { OpensTable self.old.bank.most_names (store_of self.old.bank)
-            (store_of self.new.bank) (held_tree (terms_in from.now) t) self.new.rule result }
+    /// Returns the term of a table from the nodes of its text. The number of a violated rule is
+    /// stored in the work.
+    fn open_nodes(&mut self, alloc: Global, text: &[u8], nodes: &[Node]) -> Result<Term, Fault>
+        requires nodes { (u : Tree) × AreNodesOf text.now nodes.now u }
+        requires proper { AreProperNodes text.now nodes.now }
+        ensures answer { (u : Tree) → AreNodesOf text.now nodes.now u
+            → OpensTable self.old.bank.most_names (store_of self.old.bank)
+            (store_of self.new.bank) u self.new.rule result }
         ensures grows { Grows (store_of self.old.bank) (store_of self.new.bank) }
         ensures refusal { KeepsRefusal self.old self.new result }
         ensures place { self.new.place ≡ self.old.place }
         ensures beside { IsSameButRead self.old self.new }
     {
         let before = self.bank.names();
-        let opened = self.bank.open_table(alloc, from, t);
+        let opened = self.bank.open_nodes(alloc, text, nodes);
         if !self.bank.keeps_limit(before) {
             return Err(Fault::Full);
         }
@@ -160,7 +119,7 @@ impl Work {
                 }
                 Err(Fault::Memory)
             }
-            Err(TableFault::Long) => unreachable!(),
+            Err(TableFault::Long | TableFault::Grammar { at: _ }) => unreachable!(),
         }
     }
 }

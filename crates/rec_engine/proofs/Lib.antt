@@ -50,7 +50,9 @@ pub mod MakingLemmas
 pub mod CallLemmas
 pub mod SpelledLemmas
 pub mod SharedLemmas
+pub mod VisitLemmas
 pub mod ShapeLemmas
+pub mod CopiedLemmas
 pub mod RootLemmas
 pub mod ControlLemmas
 pub mod LimitLemmas

@@ -8,6 +8,7 @@ use Rattle.std.proofs.lemmas.List.Folds.{list_any-append}
 use Rattle.rx_term.specs.Name.{plain_name}
 use Rattle.rx_term.specs.Tree.{Tree, Trees, Int, Appl, Items, Hole, none, more, count_of}
 use Rattle.rx_term.specs.Store.{Store, tree_at}
+use Rattle.rx_term.specs.Walks.{held_tree}
 use Rattle.rx_term.specs.declared.Term as bank
 use Rattle.rec_syntax.specs.Syntax.{Declaration, Spec}
 use Rattle.rec_sorts.specs.Lookup.{symbol, is_variable}
@@ -21,6 +22,7 @@ use Rattle.rec_sorts.specs.Walking.{backwards}
 use Rattle.rec_sorts.specs.declared.letters.Letter.{Letter}
 use Rattle.rec_sorts.specs.declared.letters.Meaning.TheVariants.{Symbol}
 use Rattle.rec_sorts.proofs.GivenLetterLemmas.{node_named, named-backwards}
+use Rattle.rec_sorts.proofs.WalkedLemmas.{held}
 use Rattle.rec_match.proofs.FactLemmas.{facts}
 use Rattle.rec_match.proofs.LetterLemmas.{IsFilledName}
 use Rattle.rec_engine.specs.declared.engine.errors.EngineFault.{EngineFault}
@@ -141,3 +143,13 @@ spelled-made y kept w ls (Err f) h = tt
 pub spelled-given : (y : Spec) → fault y ≡ None → (w : Store) (ls : List Letter) (u : Tree) → Spells y ls u → (r : Result bank.Term EngineFault)
     → IfOk r (λ t. (u : Tree) → MakesOne y ls u → tree_at w t ≡ Some u) → IfOk r (IsGiven y w)
 spelled-given y kept w ls u s r h = terms-given w y ls (tree_of (term_of u)) r (ground-bare y u s.is_ground) (spelled-makes y kept ls u s) h
+
+-- the copy of a given term is given
+pub copy-given : (y : Spec) (own w : Store) (t : bank.Term) (r : Result bank.Term EngineFault) → IsGiven y own t
+    → IfOk r (λ x. tree_at w x ≡ Some (tree_of (term_of (held_tree own t)))) → IfOk r (IsGiven y w)
+copy-given y own w t (Ok x) given h = record {
+  tree = tree_of (term_of (held_tree own t));
+  held = h;
+  is_ground = ground-bare y (held_tree own t) (subst (IsGround y) (sym (held own t given.tree given.held)) given.is_ground);
+}
+copy-given y own w t (Err f) given h = tt

@@ -2,6 +2,7 @@
 pub mod Answered
 pub mod Building
 pub mod Compiled
+pub mod Copied
 pub mod Drafted
 pub mod Given
 pub mod Heap
@@ -10,4 +11,5 @@ pub mod Pace
 pub mod Shared
 pub mod Started
 pub mod Turned
+pub mod Visits
 pub mod Written

@@ -17,7 +17,7 @@ ghost use Rattle.std.specs.Prelude.{Contains, length};
 ghost use Rattle.rx_term.specs.Tree.{Tree};
 ghost use Rattle.rx_term.specs.Store.{tree_at};
 ghost use Rattle.rx_term.specs.Steps.{Keeps, ProtectsOrRefuses, with_count};
-ghost use Rattle.rx_term.specs.Walks.{AllHeld};
+ghost use Rattle.rx_term.specs.Walks.{AllHeld, held_tree};
 ghost use Rattle.rec_sorts.specs.Linked.{HasMoreSymbols, AreLinked};
 ghost use Rattle.rec_sorts.specs.Evaluation.{term_of};
 ghost use Rattle.rec_sorts.specs.Binding.{tree_of};
@@ -253,6 +253,28 @@ impl<B: TermBank> Engine<B> {
             .heap
             .make_term(&machine.checked, &machine.code.links, letters);
         let_go(&mut machine.heap.work, &made);
+        made
+    }
+
+    /// Copies an input term of another store, which `check_terms` accepted, into the store of the
+    /// engine, without its annotations. Each of its different subterms is visited once: takes
+    /// expected time and memory linear in their number, with their arguments and the lengths of
+    /// their names.
+    pub fn given_from<N: TermBank>(&mut self, own: &N, t: Term) -> Result<Term, EngineFault>
+        requires { IsGiven self.old.spec (N.store own.now) t }
+        ensures same { SameEngine self.old self.new }
+        ensures keeps { Keeps (B.store self.old.bank) (B.store self.new.bank) [] }
+        ensures term { IfOk result (λ r. tree_at (B.store self.new.bank) r
+            ≡ Some (tree_of (term_of (held_tree (N.store own.now) t)))) }
+        ensures given { IfOk result (IsGiven self.new.spec (B.store self.new.bank)) }
+        ensures kept { IfOk result (Contains self.new.work) }
+        ensures held { AllHeld (B.store self.new.bank) self.new.work }
+        ensures room { RoomOnlyFor (B.store self.new.bank) self.new.memo
+            (Some (tree_of (term_of (held_tree (N.store own.now) t)))) result }
+        ensures needed { RoomOnly (B.store self.new.bank) self.new.work self.new.memo result }
+    {
+        let made = self.machine.heap.copy_term(own, t);
+        let_go(&mut self.machine.heap.work, &made);
         made
     }
 

@@ -23,7 +23,8 @@
 //! subterms than the store has cells. Arguments without operators are values, and are never
 //! compiled if the term has more than 1,048,576 occurrences: `f(v)` takes no longer because `v` has
 //! 2^200 leaves in a few hundred cells. Any other term is compiled, with an instruction for each
-//! occurrence; more than `u32::MAX` are out of memory at once.
+//! occurrence; more than `u32::MAX` are out of memory at once. [`Engine::given_from`] copies a term
+//! of another store by its different subterms.
 //!
 //! **Memo table.** It stores results of repeated calls. A hit costs as many steps as the first
 //! evaluation, so it saves time and never changes an outcome.

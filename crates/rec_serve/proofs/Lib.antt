@@ -6,3 +6,4 @@ pub mod ReasonLemmas
 pub mod ReplyLemmas
 pub mod RequestLemmas
 pub mod RunLemmas
+pub mod TakenLemmas

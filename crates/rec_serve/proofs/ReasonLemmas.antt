@@ -1,5 +1,5 @@
 -- Why a request has no answer, and what is written for it then.
-use Rattle.std.proofs.Common.{◌≡◌, ◌≢◌, ℕ, ◌<◌, Bool, true, List, [], Option, Some, None, IfErr, IfOk, OnOk, Result, Ok, Err}
+use Rattle.std.proofs.Common.{◌≡◌, ℕ, ◌<◌, Bool, true, List, [], Option, Some, None, IfErr, IfOk, OnOk, Result, Ok, Err}
 use Rattle.std.proofs.Common.{inl, inr, refl, sym, ap, subst, ◌∙◌, arith}
 use Rattle.std.specs.Prelude.{◌⊎◌, Contains, MatchBool, MatchOption, codes}
 use Rattle.std.specs.Ordering.{nat_cmp}
@@ -68,12 +68,12 @@ cells_alone own w work m (Err fault.Memory) h = tt
 cells_alone own w work m (Err fault.Room) h = inr h
 cells_alone own w work m (Err fault.Deep) h = tt
 
-pub never_deep : {A : Type 0} (w : Store) (work : List Term) (m : Pairs) (r : Result A EngineFault) → RoomOnly w work m r
-    → IfErr r (λ f. f ≢ fault.Deep)
-never_deep w work m (Ok a) h = tt
-never_deep w work m (Err fault.Memory) h = λ e. cc e
-never_deep w work m (Err fault.Room) h = λ e. cc e
-never_deep w work m (Err fault.Deep) h = absurd h
+pub deep_alone : {A : Type 0} (w : Store) (work : List Term) (m : Pairs) (waiting : ℕ) (depth : Option ℕ) (r : Result A EngineFault)
+    → RoomOnly w work m r → IfErr r (DeepOnly waiting depth)
+deep_alone w work m waiting depth (Ok a) h = tt
+deep_alone w work m waiting depth (Err fault.Memory) h = tt
+deep_alone w work m waiting depth (Err fault.Room) h = tt
+deep_alone w work m waiting depth (Err fault.Deep) h = absurd h
 
 -- and within one
 pub cells_within : {A : Type 0} (own w : Store) (work : List Term) (m : Pairs) (depth : Option ℕ) (waiting : ℕ) (r : Result A EngineFault)
@@ -106,7 +106,7 @@ reason_of store ws e own depth (Err fault.Deep) full same room deep = same ∙ d
 -- what is written for a request is its answer, or the line of an error that has its reason
 pub reply_is : {B : Type 0} (store : B → Store) (y : Spec) (s : ServeSettings) (ws : Workspace) (e : EngineState B) (q : Request)
     (r : Result Answered EngineFault) → IfErr r (HasReason store ws e)
-    → IfOk r (λ a. (line : List ℕ) → IsRead q line → IsAnswer y s.options.count s.form s.options.steps line a.text.items) → (line : List ℕ)
+    → IfOk r (λ a. (line : List ℕ) → IsRead q line → IsAnswer y s line a.text.items) → (line : List ℕ)
     → IsRead q line → IsReplyOf store y s ws e line (text_of r)
 reply_is store y s ws e q (Ok a) reason h line is = inl (h line is)
 reply_is store y s ws e q (Err fault.Memory) reason h line is = inr (inl refl)
@@ -119,10 +119,6 @@ deep_line : (depth : Option ℕ) (waiting : ℕ) (t : List ℕ) → t ≡ codes 
 deep_line None waiting t e full = absurd (cc full)
 deep_line (Some d) waiting t e full = e
 
--- replies of a conversation with these settings
-abbrev pub IsReplyFor : Spec → ServeSettings → List ℕ → List ℕ → Type 0
-IsReplyFor y s = IsReply y s.options.count s.form s.options.steps s.depth
-
 module _ {B : Type 0} (store : B → Store) (y : Spec) (s : ServeSettings) where
   reasoned_want : (ws : Workspace) (e : EngineState B) (t : List ℕ) → ws.session.settings ≡ s → IsReasoned store ws e t → IsWant s.depth t
   reasoned_want ws e t same (inl k) = inl k
@@ -131,29 +127,29 @@ module _ {B : Type 0} (store : B → Store) (y : Spec) (s : ServeSettings) where
       inr (inr (deep_line s.depth e.waiting t k.0 (sym (ap (λ x. x.depth) same) ∙ k.1)))
 
   -- a reply that has its reason now is one of a conversation
-  now_reply : (ws : Workspace) (e : EngineState B) → ws.session.settings ≡ s → (r t : List ℕ) → IsReplyOf store y s ws e r t → IsReplyFor y s r t
+  now_reply : (ws : Workspace) (e : EngineState B) → ws.session.settings ≡ s → (r t : List ℕ) → IsReplyOf store y s ws e r t → IsReply y s r t
   now_reply ws e same r t (inl a) = inl a
   now_reply ws e same r t (inr h) = inr (reasoned_want ws e t same h)
 
   pub replies_now : (z : Spec) (u : ServeSettings) (ws : Workspace) (e : EngineState B) (m : Bool) (old left remaining was now : Option (List ℕ))
       → m ≡ true → z ≡ y → u ≡ s → ws.session.settings ≡ u
       → MatchBool m (Replies (IsReplyOf store z u ws e) old left was now) (EndsStep old remaining was now)
-      → Replies (IsReplyFor y s) old left was now
+      → Replies (IsReply y s) old left was now
   replies_now z u ws e m old left remaining was now is spec settings same h =
       let step : Replies (IsReplyOf store z u ws e) old left was now =
       subst (λ (b : Bool). MatchBool b (Replies (IsReplyOf store z u ws e) old left was now) (EndsStep old remaining was now)) is h in
       let here : Replies (IsReplyOf store y s ws e) old left was now =
       subst (λ (v : ServeSettings). Replies (IsReplyOf store y v ws e) old left was now) settings
       (subst (λ x. Replies (IsReplyOf store x u ws e) old left was now) spec step) in
-      replies_weaker (IsReplyOf store y s ws e) (IsReplyFor y s) (now_reply ws e (same ∙ settings)) old left was now here
+      replies_weaker (IsReplyOf store y s ws e) (IsReply y s) (now_reply ws e (same ∙ settings)) old left was now here
 
   pub stops_now : (z : Spec) (u : ServeSettings) (ws : Workspace) (e : EngineState B) (f : ServeFault) (old was now : Option (List ℕ))
-      → z ≡ y → u ≡ s → ws.session.settings ≡ u → StopsStep (IsReplyOf store z u ws e) f old was now → StopsStep (IsReplyFor y s) f old was now
+      → z ≡ y → u ≡ s → ws.session.settings ≡ u → StopsStep (IsReplyOf store z u ws e) f old was now → StopsStep (IsReply y s) f old was now
   stops_now z u ws e f old was now spec settings same h =
       let here : StopsStep (IsReplyOf store y s ws e) f old was now =
       subst (λ (v : ServeSettings). StopsStep (IsReplyOf store y v ws e) f old was now) settings
       (subst (λ x. StopsStep (IsReplyOf store x u ws e) f old was now) spec h) in
-      stops_weaker (IsReplyOf store y s ws e) (IsReplyFor y s) (now_reply ws e (same ∙ settings)) f old was now here
+      stops_weaker (IsReplyOf store y s ws e) (IsReply y s) (now_reply ws e (same ∙ settings)) f old was now here
 
 -- what holds at a value holds of each
 pub if_ok_on : {X E : Type 0} (When : X → Type 0) (P : Type 0) (r : Result X E) → OnOk r P → IfOk r (λ x. When x → P)

@@ -1,9 +1,8 @@
 -- The result of a request, and the response lines.
---     refusal_after y v        the reason why a request is rejected, by its verdict
---     refusal_line r           the response line of a rejected request
---     shown w counted form n notes o   the text of the outcome of a term with annotations
---     IsAnswered y counted form n r a  the specified response to a request, with its reason
-use Rattle.std.specs.Prelude.{ℕ, ◌≡◌, ◌⊎◌, Bool, Option, Some, Result, Ok, Err, List, [], ◌∷◌, ◌++◌}
+--     refusal_after y s v      the reason why a request is rejected, by its verdict
+--     shown w s notes o        the text of the outcome of a term with annotations
+--     IsAnswered y s r a       the specified response to a request, with its reason
+use Rattle.std.specs.Prelude.{ℕ, ◌≡◌, ◌⊎◌, Option, Some, Result, Ok, Err, List, [], ◌∷◌, ◌++◌}
 use Rattle.std.specs.Prelude.{codes, decimal, option_map}
 use Rattle.rx_term.specs.Tree.{Tree, Trees, annotated}
 use Rattle.rx_term.specs.Store.{Store, cells}
@@ -21,41 +20,40 @@ use Rattle.rec_run.specs.GivenTerms.{item_at}
 use Rattle.rec_run.specs.EvaluatedLines.{unsaid}
 use Rattle.rec_run.specs.Output.{printed}
 use Rattle.rx_run.specs.Due.{steps_text}
-use Rattle.rec_serve.specs.Conversation.{answer_after, answer_by}
+use Rattle.rec_serve.specs.Conversation.{answer_after, answer_by, taken}
 use Rattle.rec_serve.specs.declared.answers.Answered.{Answered}
 use Rattle.rec_serve.specs.declared.ending.Refusal.{Refusal}
 use Rattle.rec_serve.specs.declared.ending.Refusal.TheVariants as refusal
-use Rattle.rec_run.specs.declared.options.ValueForm.{ValueForm}
+use Rattle.rec_serve.specs.declared.settings.ServeSettings.{ServeSettings}
+
+-- the reason why a request is rejected, by its tree, or why it has none; `None` if it is accepted
+abbrev pub refusal_of : Spec → Result Tree Refusal → Option Refusal
+refusal_of y (Ok t) = option_map refusal.Rule (broken_by_elements y (t ∷ []))
+refusal_of y (Err why) = Some why
 
 -- the reason why a request with this verdict is rejected; `None` if it is accepted
-abbrev pub refusal_after : Spec → Verdict → Option Refusal
-refusal_after y TooLong = Some refusal.Long
-refusal_after y (Outside at) = Some (refusal.Outside at)
-refusal_after y (Spelt t) = option_map refusal.Rule (broken_by_elements y (t ∷ []))
-
--- the response line of a rejected request
-abbrev pub refusal_line : Refusal → List ℕ
-refusal_line refusal.Long = codes "!term L1\n"
-refusal_line (refusal.Outside at) = codes "!term A\n"
-refusal_line (refusal.Rule number) = codes "!term T" ++ decimal number ++ codes "\n"
+abbrev pub refusal_after : Spec → ServeSettings → Verdict → Option Refusal
+refusal_after y s TooLong = Some refusal.Long
+refusal_after y s (Outside at) = Some (refusal.Outside at)
+refusal_after y s (Spelt t) = refusal_of y (taken s.input t)
 
 -- the text of the outcome of a term with these annotations, without a line end
-abbrev pub shown : Store → Bool → ValueForm → ℕ → Trees → Outcome → List ℕ
-shown w counted form n notes (Value r steps) = unsaid (steps_text counted steps)
-    (printed form (annotated (item_at w r) notes))
-shown w counted form n notes Limit = codes "!limit " ++ decimal n
+abbrev pub shown : Store → ServeSettings → Trees → Outcome → List ℕ
+shown w s notes (Value r steps) = unsaid (steps_text s.options.count steps)
+    (printed s.form (annotated (item_at w r) notes))
+shown w s notes Limit = codes "!limit " ++ decimal s.options.steps
 
 -- the specified response to a request, with the reason why it is rejected
-pub record IsAnswered (y : Spec) (counted : Bool) (form : ValueForm) (n : ℕ) (request : List ℕ) (a : Answered)
-    : Type 0 where
-  pub verdict : Verdict
-  pub is : IsVerdict request verdict
-  pub text : a.text.items ≡ answer_after y counted form n verdict
-  pub refusal : a.refusal ≡ refusal_after y verdict
+pub record IsAnswered (y : Spec) (s : ServeSettings) (request : List ℕ) (a : Answered) : Type 0
+  where
+    pub verdict : Verdict
+    pub is : IsVerdict request verdict
+    pub text : a.text.items ≡ answer_after y s verdict
+    pub refusal : a.refusal ≡ refusal_after y s verdict
 
 -- the specified response to a request that is this tree, with the reason why it is rejected
-pub record AnswersTree (y : Spec) (counted : Bool) (form : ValueForm) (n : ℕ) (t : Tree) (a : Answered) : Type 0 where
-  pub text : a.text.items ≡ answer_by y counted form n t (broken_by_elements y (t ∷ []))
+pub record AnswersTree (y : Spec) (s : ServeSettings) (t : Tree) (a : Answered) : Type 0 where
+  pub text : a.text.items ≡ answer_by y s t (broken_by_elements y (t ∷ []))
   pub refusal : a.refusal ≡ option_map refusal.Rule (broken_by_elements y (t ∷ []))
 
 -- the line that is written for a request

@@ -1,13 +1,12 @@
 -- The laws of sessions.
-use Rattle.std.specs.Prelude.{ℕ, ◌≡◌, ◌<◌, ◌^◌, ◌⊎◌, ◌++◌, Bool, List, Option, IsTrue, codes}
-use Rattle.std.specs.Prelude.{flat_map, nat_lt}
+use Rattle.std.specs.Prelude.{ℕ, ◌≡◌, ◌⊎◌, ◌++◌, List, IsTrue, codes, flat_map, nat_lt}
 use Rattle.std.specs.List.{list_all}
 use Rattle.rec_syntax.specs.Syntax.{Spec}
 use Rattle.rx_run.specs.Bytes.{newlines}
 use Rattle.rec_sorts.specs.Laws.{Every}
 use Rattle.rec_serve.specs.Conversation.{requests, IsAnswer, IsDue}
 use Rattle.rec_serve.specs.Replies.{IsWant}
-use Rattle.rec_run.specs.declared.options.ValueForm.{ValueForm}
+use Rattle.rec_serve.specs.declared.settings.ServeSettings.{ServeSettings}
 
 -- requests with their line ends
 abbrev pub ended : List (List ℕ) → List ℕ
@@ -28,20 +27,19 @@ pub record RequestsLaw : Type 0 where
 
 -- each request has exactly one specified response
 abbrev pub OneAnswer : Type 0
-OneAnswer = (y : Spec) (counted : Bool) (form : ValueForm) (n : ℕ) (r : List ℕ) → (a : List ℕ)
-    × IsAnswer y counted form n r a × ((b : List ℕ) → IsAnswer y counted form n r b → b ≡ a)
+OneAnswer = (y : Spec) (s : ServeSettings) (r : List ℕ) → (a : List ℕ) × IsAnswer y s r a
+    × ((b : List ℕ) → IsAnswer y s r b → b ≡ a)
 
 -- a specified response is one line, with no other line end in it; so each request line has one
 -- response line
 abbrev pub OneLine : Type 0
-OneLine = (y : Spec) (counted : Bool) (form : ValueForm) (n : ℕ) (r a : List ℕ) → n < 2 ^ 64
-    → IsTrue (list_all (λ b. nat_lt b 256) r) → IsAnswer y counted form n r a
+OneLine = (y : Spec) (s : ServeSettings) (r a : List ℕ)
+    → IsTrue (list_all (λ b. nat_lt b 256) r) → IsAnswer y s r a
     → (text : List ℕ) × (a ≡ text ++ codes "\n") × (newlines text ≡ 0)
 
 -- no specified response is the line of a request that ran out of memory, cells or call depth
 abbrev pub NoWant : Type 0
-NoWant = (y : Spec) (counted : Bool) (form : ValueForm) (n : ℕ) (depth : Option ℕ) (r a : List ℕ)
-    → IsAnswer y counted form n r a → IsWant depth a → ⊥
+NoWant = (y : Spec) (s : ServeSettings) (r a : List ℕ) → IsAnswer y s r a → IsWant s.depth a → ⊥
 
 -- a stream may be divided after a line end: the requests are those of each part; the output of two
 -- lists of requests is the output of each; and requests have one specified output. So it does not
@@ -49,7 +47,7 @@ NoWant = (y : Spec) (counted : Bool) (form : ValueForm) (n : ℕ) (depth : Optio
 pub record SplitLaw : Type 0 where
   pub streams : (front rest : List ℕ) → requests (front ++ codes "\n" ++ rest)
       ≡ requests (front ++ codes "\n") ++ requests rest
-  pub due : (y : Spec) (counted : Bool) (form : ValueForm) (n : ℕ) (rs ss : List (List ℕ)) (a b : List ℕ)
-      → IsDue y counted form n rs a → IsDue y counted form n ss b → IsDue y counted form n (rs ++ ss) (a ++ b)
-  pub one : (y : Spec) (counted : Bool) (form : ValueForm) (n : ℕ) (rs : List (List ℕ)) (a b : List ℕ)
-      → IsDue y counted form n rs a → IsDue y counted form n rs b → a ≡ b
+  pub due : (y : Spec) (s : ServeSettings) (rs ss : List (List ℕ)) (a b : List ℕ) → IsDue y s rs a
+      → IsDue y s ss b → IsDue y s (rs ++ ss) (a ++ b)
+  pub one : (y : Spec) (s : ServeSettings) (rs : List (List ℕ)) (a b : List ℕ) → IsDue y s rs a
+      → IsDue y s rs b → a ≡ b

@@ -1,11 +1,11 @@
 -- The output for requests, also if memory or cells run out or a stream fails.
---     IsReply y counted form n depth r reply      a response to a request
---     ConversesBy, BreaksOffBy               Converses and BreaksOff, for any relation of responses
---     Converses y counted form n depth bytes ..   all requests of a stream were answered
---     BreaksOff y counted form n depth bytes ..   a session stopped at an error
---     ConcludesServing counted form n depth ..    a run ended
---     BreaksServing counted form n depth ..       a run stopped at an error
-use Rattle.std.specs.Prelude.{ℕ, ◌≡◌, ◌⊎◌, Bool, Option, Some, None, IfSome, List, [], ◌∷◌, ◌++◌}
+--     IsReply y s r reply          a response to a request
+--     ConversesBy, BreaksOffBy     Converses and BreaksOff, for any relation of responses
+--     Converses y s bytes ..       all requests of a stream were answered
+--     BreaksOff y s bytes ..       a session stopped at an error
+--     ConcludesServing s ..        a run ended
+--     BreaksServing s ..           a run stopped at an error
+use Rattle.std.specs.Prelude.{ℕ, ◌≡◌, ◌⊎◌, Option, Some, None, IfSome, List, [], ◌∷◌, ◌++◌}
 use Rattle.std.specs.Prelude.{codes, length}
 use Rattle.std.specs.Io.KnownBytes.{Appends}
 use Rattle.rx_text.specs.Written.{AppendsFront, IsFront}
@@ -21,7 +21,7 @@ use Rattle.rx_run.specs.declared.refusal.Ending.TheVariants.{Done}
 use Rattle.rec_serve.specs.Conversation.{requests, IsAnswer, joined}
 use Rattle.rec_serve.specs.declared.ending.ServeFault.{ServeFault}
 use Rattle.rec_serve.specs.declared.ending.ServeFault.TheVariants.{Memory, Read, Write}
-use Rattle.rec_run.specs.declared.options.ValueForm.{ValueForm}
+use Rattle.rec_serve.specs.declared.settings.ServeSettings.{ServeSettings}
 
 -- the line of a request that reached the call-depth limit, if there is one
 abbrev pub IsTooDeep : Option ℕ → List ℕ → Type 0
@@ -33,8 +33,8 @@ abbrev pub IsWant : Option ℕ → List ℕ → Type 0
 IsWant depth text = (text ≡ codes "!memory\n") ⊎ ((text ≡ codes "!cells\n") ⊎ IsTooDeep depth text)
 
 -- a response to a request: the specified one, or such a line
-abbrev pub IsReply : Spec → Bool → ValueForm → ℕ → Option ℕ → List ℕ → List ℕ → Type 0
-IsReply y counted form n depth request reply = IsAnswer y counted form n request reply ⊎ IsWant depth reply
+abbrev pub IsReply : Spec → ServeSettings → List ℕ → List ℕ → Type 0
+IsReply y s request reply = IsAnswer y s request reply ⊎ IsWant s.depth reply
 
 -- a response to each request of a stream was written, in their order
 pub record ConversesBy (Reply : List ℕ → List ℕ → Type 0) (bytes : List ℕ)
@@ -44,9 +44,8 @@ pub record ConversesBy (Reply : List ℕ → List ℕ → Type 0) (bytes : List 
   pub written : Appends old new (joined replies)
 
 -- all requests of a stream were answered in their order, with responses as in `IsReply`
-abbrev pub Converses : Spec → Bool → ValueForm → ℕ → Option ℕ → List ℕ → Option (List ℕ) → Option (List ℕ)
-    → Type 0
-Converses y counted form n depth bytes old new = ConversesBy (IsReply y counted form n depth) bytes old new
+abbrev pub Converses : Spec → ServeSettings → List ℕ → Option (List ℕ) → Option (List ℕ) → Type 0
+Converses y s bytes old new = ConversesBy (IsReply y s) bytes old new
 
 -- the number of answered requests that an error reports
 abbrev pub answered_before : ServeFault → ℕ
@@ -75,40 +74,38 @@ pub record BreaksOffBy (Reply : List ℕ → List ℕ → Type 0) (bytes : List 
   pub written : Appends old new (joined replies ++ part)
 
 -- a session stopped at an error, with responses as in `IsReply`
-abbrev pub BreaksOff : Spec → Bool → ValueForm → ℕ → Option ℕ → List ℕ → ServeFault → Option (List ℕ)
-    → Option (List ℕ) → Type 0
-BreaksOff y counted form n depth bytes fault old new =
-    BreaksOffBy (IsReply y counted form n depth) bytes fault old new
+abbrev pub BreaksOff : Spec → ServeSettings → List ℕ → ServeFault → Option (List ℕ) → Option (List ℕ)
+    → Type 0
+BreaksOff y s bytes fault old new = BreaksOffBy (IsReply y s) bytes fault old new
 
 -- a run ended, by the verdict on the specification: the requests were answered if it is accepted,
 -- otherwise its error line was written
-abbrev pub ConcludesAfter : Bool → ValueForm → ℕ → Option ℕ → Verdict → Option (List ℕ) → Ending
-    → Option (List ℕ) → Option (List ℕ) → Type 0
-ConcludesAfter counted form n depth (Good y) known ending old new = (ending ≡ Done)
-    × IfSome known (λ bytes. Converses y counted form n depth bytes old new)
-ConcludesAfter counted form n depth v known ending old new =
-    IsEnding (due_of_spec (bare counted) n v) ending
-    × Appends old new (due_of_spec (bare counted) n v).text
+abbrev pub ConcludesAfter : ServeSettings → Verdict → Option (List ℕ) → Ending → Option (List ℕ)
+    → Option (List ℕ) → Type 0
+ConcludesAfter s (Good y) known ending old new = (ending ≡ Done)
+    × IfSome known (λ bytes. Converses y s bytes old new)
+ConcludesAfter s v known ending old new =
+    IsEnding (due_of_spec (bare s.options.count) s.options.steps v) ending
+    × Appends old new (due_of_spec (bare s.options.count) s.options.steps v).text
 
 -- a run ended, by the text of the specification and the requests, if their readers describe them
-abbrev pub ConcludesServing : Bool → ValueForm → ℕ → Option ℕ → Option (List ℕ) → Option (List ℕ) → Ending
+abbrev pub ConcludesServing : ServeSettings → Option (List ℕ) → Option (List ℕ) → Ending
     → Option (List ℕ) → Option (List ℕ) → Type 0
-ConcludesServing counted form n depth spec known ending old new = IfSome spec (λ text. (v : Verdict)
-    × SpecVerdict text v × ConcludesAfter counted form n depth v known ending old new)
+ConcludesServing s spec known ending old new = IfSome spec (λ text. (v : Verdict)
+    × SpecVerdict text v × ConcludesAfter s v known ending old new)
 
 -- a run stopped at an error, by the verdict on the specification
-abbrev pub BreaksAfter : Bool → ValueForm → ℕ → Option ℕ → Verdict → Option (List ℕ) → ServeFault
+abbrev pub BreaksAfter : ServeSettings → Verdict → Option (List ℕ) → ServeFault
     → Option (List ℕ) → Option (List ℕ) → Type 0
-BreaksAfter counted form n depth (Good y) known fault old new =
-    IfSome known (λ bytes. BreaksOff y counted form n depth bytes fault old new)
-BreaksAfter counted form n depth v known fault old new = (answered_before fault ≡ 0)
-    × AppendsFront (due_of_spec (bare counted) n v).text old new
+BreaksAfter s (Good y) known fault old new = IfSome known (λ bytes. BreaksOff y s bytes fault old new)
+BreaksAfter s v known fault old new = (answered_before fault ≡ 0)
+    × AppendsFront (due_of_spec (bare s.options.count) s.options.steps v).text old new
 
 -- a run stopped at an error, by the text of the specification and the requests
-abbrev pub BreaksServing : Bool → ValueForm → ℕ → Option ℕ → Option (List ℕ) → Option (List ℕ) → ServeFault
+abbrev pub BreaksServing : ServeSettings → Option (List ℕ) → Option (List ℕ) → ServeFault
     → Option (List ℕ) → Option (List ℕ) → Type 0
-BreaksServing counted form n depth spec known fault old new = IfSome spec (λ text. (v : Verdict)
-    → SpecVerdict text v → BreaksAfter counted form n depth v known fault old new)
+BreaksServing s spec known fault old new = IfSome spec (λ text. (v : Verdict)
+    → SpecVerdict text v → BreaksAfter s v known fault old new)
 
 -- the error of a run whose specification was not read: memory ran out or the reader failed; reading
 -- a text has no other error

@@ -2,10 +2,7 @@
 
 ghost use Rattle.std.specs.Prelude.{
   ◌≡◌,
-  ◌≢◌,
-  ◌∷◌,
   [],
-  Err,
   IfErr,
   IfOk,
   IfSome,
@@ -16,31 +13,25 @@ ghost use Rattle.std.specs.Prelude.{
 };
 ghost use Rattle.rx_term.specs.Steps.{Grows, IsBankRefusal, Keeps};
 ghost use Rattle.rx_term.specs.Store.{tree_at};
-ghost use Rattle.rx_term.specs.Tree.{Tree, list_of, more, none};
+ghost use Rattle.rx_term.specs.Tree.{list_of, more, none};
+ghost use Rattle.rx_term.specs.Walks.{held_tree};
 ghost use Rattle.rec_engine.specs.Limits.{KeepsLimit};
 ghost use Rattle.rec_engine.specs.Engine.{IsGiven, SameEngine};
 ghost use Rattle.rec_sorts.specs.Binding.{tree_of};
 ghost use Rattle.rec_sorts.specs.Evaluation.{term_of};
-ghost use Rattle.rec_sorts.specs.Numbering.{AreLetters};
-ghost use Rattle.rec_sorts.specs.TermRules.{broken_by_elements};
-ghost use Rattle.rec_serve.specs.Answering.{
-  AnswersTree,
-  CellsOnly,
-  DeepOnly,
-  IsAnswered,
-  refusal_line,
-};
-ghost use Rattle.rec_serve.specs.Inner.Asked.{KeepsRules, of_store};
+ghost use Rattle.rec_serve.specs.Answering.{AnswersTree, CellsOnly, DeepOnly, IsAnswered};
+ghost use Rattle.rec_serve.specs.Conversation.{refusal_line};
+ghost use Rattle.rec_serve.specs.Inner.Asked.{of_input, of_reason, of_store};
 
 use crate::ending::Refusal;
 use crate::lines::{outcome_text, refusal_text};
 use crate::settings::Session;
 use rec_engine::{Engine, EngineFault};
 use rec_run::evaluate_within;
-use rec_sorts::{Checked, Letter, TermsFault, check_terms, term_letters};
+use rec_sorts::{TermsFault, check_terms};
+use rx_run::{Reading, Reason, RunFault, Source, parse_input};
 use rx_term::{BankFault, Term, TermBank};
-use rx_text::TextFault;
-use std::alloc::{AllocError, Global};
+use std::alloc::Global;
 
 /// The response to a request.
 #[derive(Drop)]
@@ -51,10 +42,10 @@ pub struct Answered {
     pub refusal: Option<Refusal>,
 }
 
-/// Returns the response to a request, which is read in the store `own` of the caller. The error is
-/// `EngineFault::Room` only if that store is full or the engine has no room, and
-/// `EngineFault::Deep` only if as many calls are pending as the settings allow. After an error the
-/// engine can answer the next request.
+/// Returns the response to a request, which is read in the form of the settings into the store `own`
+/// of the caller. The error is `EngineFault::Room` only if that store is full or the engine has no
+/// room, and `EngineFault::Deep` only if as many calls are pending as the settings allow. After an
+/// error the engine can answer the next request.
 pub fn answer<N: TermBank, B: TermBank>(
     session: Session,
     own: &mut N,
@@ -62,8 +53,7 @@ pub fn answer<N: TermBank, B: TermBank>(
     request: &[u8],
 ) -> Result<Answered, EngineFault>
     ensures answered { IfOk result
-        (IsAnswered engine.old.spec session.settings.options.count session.settings.form
-        session.settings.options.steps request.now) }
+        (IsAnswered engine.old.spec session.settings request.now) }
     ensures same { SameEngine engine.old engine.new }
     ensures keeps { Keeps (B.store engine.old.bank) (B.store engine.new.bank) [] }
     ensures grows { Grows (N.store own.old) (N.store own.new) }
@@ -73,13 +63,35 @@ pub fn answer<N: TermBank, B: TermBank>(
     ensures bound { IfOk result (λ a. a.refusal ≡ None
         → KeepsLimit session.settings.depth engine.new.bound engine.new.waiting) }
 {
-    let alloc = session.alloc;
-    match rx_text::read(alloc, request, own) {
-        Ok(term) => answer_term(session, own, engine, term),
-        Err(TextFault::Long) => refuse(alloc, Refusal::Long),
-        Err(TextFault::Grammar { at }) => refuse(alloc, Refusal::Outside { at }),
-        Err(TextFault::Memory) => Err(EngineFault::Memory),
-        Err(TextFault::Full) => Err(EngineFault::Room),
+    let input = session.settings.input;
+    match parse_input(session.alloc, Source::Term, input, request, own) {
+        Ok(Reading::Good(term)) => answer_term(session, own, engine, term),
+        Ok(Reading::Refused(refused)) => refuse(session.alloc, refusal_for(refused.reason)),
+        Err(fault) => Err(input_fault(fault)),
+    }
+}
+
+/// Returns the reason why a request is rejected, from the error of its text.
+fn refusal_for(reason: Reason) -> Refusal
+    requires { IsSome (of_reason reason) }
+    ensures { of_reason reason ≡ Some result }
+{
+    match reason {
+        Reason::Long => Refusal::Long,
+        Reason::Outside { at } => Refusal::Outside { at },
+        Reason::NotTable => Refusal::NotTable,
+        Reason::Element { number } => Refusal::Element { number },
+        _ => unreachable!(),
+    }
+}
+
+/// Returns the error of a request whose text was not read.
+fn input_fault(fault: RunFault) -> EngineFault
+    ensures { result ≡ of_input fault }
+{
+    match fault {
+        RunFault::Room { lines: _ } => EngineFault::Room,
+        _ => EngineFault::Memory,
     }
 }
 
@@ -107,8 +119,7 @@ fn answer_term<N: TermBank, B: TermBank>(
 ) -> Result<Answered, EngineFault>
     requires { IsSome (tree_at (N.store own.old) term) }
     ensures answered { IfOk result (λ a. IfSome (tree_at (N.store own.old) term)
-        (λ t. AnswersTree engine.old.spec session.settings.options.count session.settings.form
-        session.settings.options.steps t a)) }
+        (λ t. AnswersTree engine.old.spec session.settings t a)) }
     ensures same { SameEngine engine.old engine.new }
     ensures keeps { Keeps (B.store engine.old.bank) (B.store engine.new.bank) [] }
     ensures grows { Grows (N.store own.old) (N.store own.new) }
@@ -123,7 +134,7 @@ fn answer_term<N: TermBank, B: TermBank>(
         Err(fault) => return Err(store_fault(fault)),
     };
     match check_terms(session.alloc, engine.checked(), own, list) {
-        Ok(()) => answer_checked(session, own, engine, Asked { term, list }),
+        Ok(()) => answer_checked(session, own, engine, term),
         Err(TermsFault::Rule { number }) => refuse(session.alloc, Refusal::Rule { number }),
         Err(TermsFault::Memory) => Err(EngineFault::Memory),
     }
@@ -151,28 +162,52 @@ fn alone<N: TermBank>(bank: &mut N, t: Term) -> Result<Term, BankFault>
     bank.cons(t, nil)
 }
 
-/// The term of a request in a store, and the list with this term only.
-#[derive(Clone, Copy, Drop)]
-struct Asked {
-    /// The term.
-    term: Term,
-    /// The list.
-    list: Term,
-}
-
 /// Returns the response to a request whose term violates no rule.
 fn answer_checked<N: TermBank, B: TermBank>(
     session: Session,
     own: &N,
     engine: &mut Engine<B>,
+    term: Term,
+) -> Result<Answered, EngineFault>
+    requires { IsGiven engine.old.spec (N.store own.now) term }
+    ensures answered { IfOk result (λ a. IfSome (tree_at (N.store own.now) term)
+        (λ t. AnswersTree engine.old.spec session.settings t a)) }
+    ensures same { SameEngine engine.old engine.new }
+    ensures keeps { Keeps (B.store engine.old.bank) (B.store engine.new.bank) [] }
+    ensures room { IfErr result (CellsOnly (N.store own.now) (B.store engine.new.bank)
+        engine.new.work engine.new.memo) }
+    ensures deep { IfErr result (DeepOnly engine.new.waiting session.settings.depth) }
+    ensures bound { OnOk result
+        (KeepsLimit session.settings.depth engine.new.bound engine.new.waiting) }
+{
+    match engine.given_from(own, term) {
+        Ok(given) => answer_given(session, own, engine, Asked { term, given }),
+        Err(fault) => Err(fault),
+    }
+}
+
+/// The term of a request in its store, and its copy in the store of the engine.
+#[derive(Clone, Copy, Drop)]
+struct Asked {
+    /// The term.
+    term: Term,
+    /// The copy, without annotations.
+    given: Term,
+}
+
+/// Returns the response to a request whose term the engine has.
+fn answer_given<N: TermBank, B: TermBank>(
+    session: Session,
+    own: &N,
+    engine: &mut Engine<B>,
     asked: Asked,
 ) -> Result<Answered, EngineFault>
-    requires alone { (t : Tree) × (tree_at (N.store own.now) asked.term ≡ Some t)
-        × (tree_at (N.store own.now) asked.list ≡ Some (list_of (more t none)))
-        × (broken_by_elements engine.old.spec (t ∷ []) ≡ None) }
+    requires term { IsGiven engine.old.spec (N.store own.now) asked.term }
+    requires given { IsGiven engine.old.spec (B.store engine.old.bank) asked.given }
+    requires same { tree_at (B.store engine.old.bank) asked.given
+        ≡ Some (tree_of (term_of (held_tree (N.store own.now) asked.term))) }
     ensures answered { IfOk result (λ a. IfSome (tree_at (N.store own.now) asked.term)
-        (λ t. AnswersTree engine.old.spec session.settings.options.count session.settings.form
-        session.settings.options.steps t a)) }
+        (λ t. AnswersTree engine.old.spec session.settings t a)) }
     ensures same { SameEngine engine.old engine.new }
     ensures keeps { Keeps (B.store engine.old.bank) (B.store engine.new.bank) [] }
     ensures room { IfErr result (CellsOnly (N.store own.now) (B.store engine.new.bank)
@@ -182,57 +217,12 @@ fn answer_checked<N: TermBank, B: TermBank>(
         (KeepsLimit session.settings.depth engine.new.bound engine.new.waiting) }
 {
     let settings = session.settings;
-    let given = given_from(session.alloc, own, engine, asked.list)?;
-    let outcome = evaluate_within(engine, given, settings.options.steps, settings.depth)?;
+    let outcome = evaluate_within(engine, asked.given, settings.options.steps, settings.depth)?;
     match outcome_text(session, own, asked.term, engine.bank(), outcome) {
         Ok(text) => Ok(Answered {
             text,
             refusal: None,
         }),
         Err(_) => Err(EngineFault::Memory),
-    }
-}
-
-/// Makes the only term of a list, which violates no rule, in the store of an engine and without
-/// annotations.
-fn given_from<N: TermBank, B: TermBank>(
-    alloc: Global,
-    own: &N,
-    engine: &mut Engine<B>,
-    list: Term,
-) -> Result<Term, EngineFault>
-    requires { KeepsRules engine.old.spec (N.store own.now) list }
-    ensures term { IfOk result (λ given. (t : Tree)
-        → tree_at (N.store own.now) list ≡ Some (list_of (more t none))
-        → tree_at (B.store engine.new.bank) given ≡ Some (tree_of (term_of t))) }
-    ensures given { IfOk result (IsGiven engine.new.spec (B.store engine.new.bank)) }
-    ensures same { SameEngine engine.old engine.new }
-    ensures keeps { Keeps (B.store engine.old.bank) (B.store engine.new.bank) [] }
-    ensures room { IfErr result (CellsOnly (N.store own.now) (B.store engine.new.bank)
-        engine.new.work engine.new.memo) }
-    ensures shallow { IfErr result (λ fault. fault ≢ EngineFault.Deep) }
-{
-    match letters_of(alloc, engine.checked(), own, list) {
-        Ok(letters) => engine.given_term(&letters),
-        Err(AllocError) => Err(EngineFault::Memory),
-    }
-}
-
-/// Returns the postfix items of the only term of a list, which violates no rule.
-fn letters_of<N: TermBank>(
-    alloc: Global,
-    checked: &Checked,
-    bank: &N,
-    list: Term,
-) -> Result<Vec<Letter>, AllocError>
-    requires { KeepsRules checked.now.spec (N.store bank.now) list }
-    ensures { IfOk result (λ letters. (t : Tree)
-        → tree_at (N.store bank.now) list ≡ Some (list_of (more t none))
-        → AreLetters checked.now.spec letters.items (term_of t)) }
-{
-    let mut letters = term_letters(alloc, checked, bank, list)?;
-    match letters.pop() {
-        Some(letters) => Ok(letters),
-        None => unreachable!(),
     }
 }

@@ -92,12 +92,10 @@ pub fn converse<B: TermBank, R: Read, W: Write, L: Listener>(
 ) -> Result<(), ServeFault>
     ensures same { SameEngine engine.old engine.new }
     ensures output { OnOk result (IfSome (R.remaining requests.old)
-        (λ bytes. Converses engine.old.spec session.settings.options.count session.settings.form
-        session.settings.options.steps session.settings.depth bytes (W.contents out.old)
+        (λ bytes. Converses engine.old.spec session.settings bytes (W.contents out.old)
         (W.contents out.new))) }
     ensures fault { IfErr result (λ fault. IfSome (R.remaining requests.old)
-        (λ bytes. BreaksOff engine.old.spec session.settings.options.count session.settings.form
-        session.settings.options.steps session.settings.depth bytes fault (W.contents out.old)
+        (λ bytes. BreaksOff engine.old.spec session.settings bytes fault (W.contents out.old)
         (W.contents out.new))) }
     ensures requests_read { OnOk result (IsAtEnd (R.remaining requests.new)) }
 {
@@ -128,12 +126,10 @@ pub(crate) fn converse_from<B: TermBank, R: Read, W: Write, L: Listener>(
 ) -> Result<(), ServeFault>
     ensures same { SameEngine engine.old engine.new }
     ensures output { OnOk result (IfSome (remaining_in R.remaining requests.old)
-        (λ bytes. Converses engine.old.spec session.settings.options.count session.settings.form
-        session.settings.options.steps session.settings.depth bytes (contents_of W.contents out.old)
+        (λ bytes. Converses engine.old.spec session.settings bytes (contents_of W.contents out.old)
         (contents_of W.contents out.new))) }
     ensures fault { IfErr result (λ fault. IfSome (remaining_in R.remaining requests.old)
-        (λ bytes. BreaksOff engine.old.spec session.settings.options.count session.settings.form
-        session.settings.options.steps session.settings.depth bytes fault
+        (λ bytes. BreaksOff engine.old.spec session.settings bytes fault
         (contents_of W.contents out.old) (contents_of W.contents out.new))) }
     ensures requests_read { OnOk result (IsAtEnd (remaining_in R.remaining requests.new)) }
     ensures read_reports { ReportsServeRead requests.old requests.new
@@ -288,8 +284,7 @@ fn answer_kept<B: TermBank>(
     ensures same { SameEngine engine.old engine.new }
     ensures session { workspace.new.session ≡ workspace.old.session }
     ensures answered { IfOk result (λ a. (line : List ℕ) → IsRead request.now line
-        → IsAnswer engine.old.spec workspace.old.session.settings.options.count
-        workspace.old.session.settings.form workspace.old.session.settings.options.steps
+        → IsAnswer engine.old.spec workspace.old.session.settings
         line a.text.items) }
     ensures bound { IfOk result (λ a. a.refusal ≡ None
         → KeepsLimit workspace.old.session.settings.depth engine.new.bound engine.new.waiting) }

@@ -63,6 +63,12 @@ pub enum Refusal {
     Long,
     /// The request is not a term: `at` is the offset of the first token that no term has there.
     Outside { at: u32 },
+    /// The request is read as a table, and is not a list without annotations that has an element.
+    NotTable,
+    /// The request is read as a table. In its element with this number, counted from 0, a
+    /// placeholder is neither the number of an earlier element nor a list of one item, or a number,
+    /// its placeholder or such a list has annotations.
+    Element { number: usize },
     /// The term violates this well-formedness rule of input terms, T2 to T6, and none before it.
     Rule { number: u8 },
 }

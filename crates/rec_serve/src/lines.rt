@@ -20,7 +20,8 @@ ghost use Rattle.rx_text.specs.Canon.{canon};
 ghost use Rattle.rx_table.specs.Table.{table};
 ghost use Rattle.rec_run.specs.EvaluatedLines.{unsaid};
 ghost use Rattle.rx_run.specs.Due.{steps_text};
-ghost use Rattle.rec_serve.specs.Answering.{refusal_line, shown};
+ghost use Rattle.rec_serve.specs.Answering.{shown};
+ghost use Rattle.rec_serve.specs.Conversation.{refusal_line};
 ghost use Rattle.rec_serve.specs.Inner.Values.{HasBareValue, IsBare, value_for};
 
 use crate::ending::Refusal;
@@ -41,6 +42,8 @@ pub(crate) fn refusal_text(alloc: Global, refusal: Refusal) -> Result<Vec<u8>, W
     match refusal {
         Refusal::Long => put(&mut text, b"!term L1\n")?,
         Refusal::Outside { at: _ } => put(&mut text, b"!term A\n")?,
+        Refusal::NotTable => put(&mut text, b"!term R1\n")?,
+        Refusal::Element { number: _ } => put(&mut text, b"!term R2\n")?,
         Refusal::Rule { number } => {
             put_numbered(&mut text, b"!term T", u64::from(number))?;
             text.push(b'\n')?;
@@ -72,8 +75,7 @@ pub(crate) fn outcome_text<N: TermBank, B: TermBank>(
     requires held { IsSome (tree_at (N.store own.now) term) }
     requires value { HasBareValue (B.store bank.now) outcome }
     ensures { IfOk result (λ text. IfSome (tree_at (N.store own.now) term)
-        (λ t. text.items ≡ shown (B.store bank.now) session.settings.options.count
-        session.settings.form session.settings.options.steps (annotations t) outcome
+        (λ t. text.items ≡ shown (B.store bank.now) session.settings (annotations t) outcome
         ++ codes "\n")) }
 {
     let Session { alloc, settings } = session;

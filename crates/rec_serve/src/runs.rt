@@ -52,12 +52,10 @@ pub fn run_serve<S: Read, R: Read, W: Write, L: Listener>(
     out: &mut W,
     listener: &mut L,
 ) -> Result<Ending, ServeFault>
-    ensures ends { IfOk result (λ ending. ConcludesServing session.settings.options.count
-        session.settings.form session.settings.options.steps session.settings.depth
+    ensures ends { IfOk result (λ ending. ConcludesServing session.settings
         (S.remaining spec.old) (R.remaining requests.old)
         ending (W.contents out.old) (W.contents out.new)) }
-    ensures fault { IfErr result (λ fault. BreaksServing session.settings.options.count
-        session.settings.form session.settings.options.steps session.settings.depth
+    ensures fault { IfErr result (λ fault. BreaksServing session.settings
         (S.remaining spec.old) (R.remaining requests.old)
         fault (W.contents out.old) (W.contents out.new)) }
     ensures spec_read { OnOk result (IsReadOut (S.remaining spec.old) (S.remaining spec.new)) }
@@ -80,12 +78,10 @@ fn serve_from<S: Read, R: Read, W: Write, L: Listener>(
     out: &mut Output<'_, W>,
     listener: &mut L,
 ) -> Result<Ending, ServeFault>
-    ensures ends { IfOk result (λ ending. ConcludesServing session.settings.options.count
-        session.settings.form session.settings.options.steps session.settings.depth
+    ensures ends { IfOk result (λ ending. ConcludesServing session.settings
         (remaining_in S.remaining spec.old) (remaining_in R.remaining requests.old) ending
         (contents_of W.contents out.old) (contents_of W.contents out.new)) }
-    ensures fault { IfErr result (λ fault. BreaksServing session.settings.options.count
-        session.settings.form session.settings.options.steps session.settings.depth
+    ensures fault { IfErr result (λ fault. BreaksServing session.settings
         (remaining_in S.remaining spec.old) (remaining_in R.remaining requests.old) fault
         (contents_of W.contents out.old) (contents_of W.contents out.new)) }
     ensures spec_read { OnOk result (IsReadOut (remaining_in S.remaining spec.old)
@@ -129,13 +125,11 @@ fn serve_reading<R: Read, W: Write, L: Listener>(
     listener: &mut L,
 ) -> Result<Ending, ServeFault>
     ensures ends { IfOk result (λ ending. (v : Verdict) → IsSpecReading reading v
-        → ConcludesAfter session.settings.options.count session.settings.form
-        session.settings.options.steps session.settings.depth v
+        → ConcludesAfter session.settings v
         (remaining_in R.remaining requests.old) ending
         (contents_of W.contents out.old) (contents_of W.contents out.new)) }
     ensures fault { IfErr result (λ fault. (v : Verdict) → IsSpecReading reading v
-        → BreaksAfter session.settings.options.count session.settings.form
-        session.settings.options.steps session.settings.depth v
+        → BreaksAfter session.settings v
         (remaining_in R.remaining requests.old) fault
         (contents_of W.contents out.old) (contents_of W.contents out.new)) }
     ensures requests_read { OnOk result ((y : Spec) → IsSpecReading reading (Good y)
@@ -179,12 +173,10 @@ fn serve<R: Read, W: Write, L: Listener>(
     listener: &mut L,
 ) -> Result<(), ServeFault>
     ensures output { OnOk result (IfSome (remaining_in R.remaining requests.old)
-        (λ bytes. Converses checked.spec session.settings.options.count session.settings.form
-        session.settings.options.steps session.settings.depth bytes (contents_of W.contents out.old)
+        (λ bytes. Converses checked.spec session.settings bytes (contents_of W.contents out.old)
         (contents_of W.contents out.new))) }
     ensures fault { IfErr result (λ fault. IfSome (remaining_in R.remaining requests.old)
-        (λ bytes. BreaksOff checked.spec session.settings.options.count session.settings.form
-        session.settings.options.steps session.settings.depth bytes fault
+        (λ bytes. BreaksOff checked.spec session.settings bytes fault
         (contents_of W.contents out.old) (contents_of W.contents out.new))) }
     ensures requests_read { OnOk result (IsAtEnd (remaining_in R.remaining requests.new)) }
     ensures read_reports { ReportsServeRead requests.old requests.new

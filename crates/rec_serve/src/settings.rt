@@ -1,9 +1,11 @@
 //! The settings of a session.
 
 use rec_run::{RunOptions, ValueForm};
+use rx_run::InputForm;
 use std::alloc::Global;
 
-/// The settings of a session: the limits of its requests and the form of its responses.
+/// The settings of a session: the form and the limits of its requests, and the form of its
+/// responses.
 #[derive(Clone, Copy, Debug, Drop)]
 pub struct ServeSettings {
     /// The limits of an evaluation. `count` adds the steps spent to the responses that are values.
@@ -12,6 +14,8 @@ pub struct ServeSettings {
     pub form: ValueForm,
     /// The call-depth limit of a request in frames. With `None`, only memory limits the depth.
     pub depth: Option<u32>,
+    /// The form in which requests are read.
+    pub input: InputForm,
 }
 
 /// The allocator and the settings of a session.

@@ -91,5 +91,6 @@ pub fn serve_settings(options: EvalOptions) -> ServeSettings {
         options: run_options(options),
         form: value_form(options),
         depth: options.depth,
+        input: options.input,
     }
 }

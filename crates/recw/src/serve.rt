@@ -7,8 +7,11 @@ use crate::options::serve_settings;
 use crate::recorded::Recorded;
 use rec_serve::{Listener, Refusal, ServeFault, Session, run_serve};
 use rec_sorts::Checked;
-use recw_cli::{EvalOptions, NamedRefusal, TextName, Texts, Which, explain_given, explain_place};
-use rx_run::{Ending, Reason, RunFault, Source};
+use recw_cli::{
+    EvalOptions, Item, NamedRefusal, TextName, Texts, Which, explain_given, explain_place,
+    explain_text,
+};
+use rx_run::{Ending, InputForm, Reason, RunFault, Source};
 use rx_text::LONGEST;
 use std::alloc::Global;
 use std::io;
@@ -24,6 +27,8 @@ struct Explainer<'a, E> {
     path: &'a str,
     /// Whether errors are explained.
     is_asked: bool,
+    /// The form of the requests.
+    input: InputForm,
     /// The output.
     err: &'a mut E,
 }
@@ -63,14 +68,38 @@ impl<E: Write> Explainer<'_, E> {
                 let reason = Reason::Outside { at };
                 self.explain_at(NamedRefusal { text, reason }, request, at as usize)
             }
+            Refusal::NotTable => {
+                let reason = Reason::NotTable;
+                explain_text(NamedRefusal { text, reason }, None, self.err)
+            }
+            Refusal::Element { number } => {
+                let reason = Reason::Element { number };
+                let item = Some(Item::Element { at: number });
+                explain_text(NamedRefusal { text, reason }, item, self.err)
+            }
             Refusal::Rule { number } => {
                 let reason = Reason::TermsRule { number };
+                self.explain_rule(checked, NamedRefusal { text, reason }, request)
+            }
+        }
+    }
+
+    /// Explains an error of the term of a request. It has no offset if the request is a table.
+    fn explain_rule(
+        &mut self,
+        checked: &Checked,
+        refusal: NamedRefusal<'_>,
+        request: &[u8],
+    ) -> io::Result<()> {
+        match self.input {
+            InputForm::Term => {
                 let spec = checked.syntax().source();
                 let which = Which::Whole;
                 let terms = request;
                 let texts = Texts { spec, terms, which };
-                explain_given(self.alloc, NamedRefusal { text, reason }, texts, self.err)
+                explain_given(self.alloc, refusal, texts, self.err)
             }
+            InputForm::Table => explain_text(refusal, None, self.err),
         }
     }
 
@@ -177,6 +206,7 @@ fn answer_all<S: Read, R: Read, W: Write, E: Write>(
         alloc,
         path: evidence.requests_name(),
         is_asked: evidence.is_curious,
+        input: options.input,
         err,
     };
     let settings = serve_settings(options);

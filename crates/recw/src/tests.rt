@@ -183,12 +183,13 @@ fn all_leave_on(rt: &impl Abort, alloc: Global, files: &Shelf, rows: &[Row]) {
 }
 
 /// The test cases with texts in files.
-const SHELVES: [(Shelf, &[Row]); 6] = [
+const SHELVES: [(Shelf, &[Row]); 7] = [
     (streams::FILES, streams::NAMED),
     (explained::REFUSED, explained::EXPLAINED),
     (given::FILES, given::NAMED),
     (given::TABLE, given::TABLED),
     (given::BROKEN, given::REFUSED),
+    (given::REQUESTS, given::SERVED),
     (checked::PARTS, checked::JOINED),
 ];
 

@@ -272,10 +272,17 @@ pub const TO_TABLE: Argument = Argument {
     kind: Kind::Flag,
 };
 
-/// The option `--from-table`.
+/// The option `--from-table` of commands on one term.
 pub const FROM_TABLE: Argument = Argument {
     name: "from-table",
     help: "Read a table, and use its term",
+    kind: Kind::Flag,
+};
+
+/// The option `--from-table` of `serve`.
+pub const REQUEST_TABLES: Argument = Argument {
+    name: "from-table",
+    help: "Read a table on each line, and use its term",
     kind: Kind::Flag,
 };
 

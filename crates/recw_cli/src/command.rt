@@ -3,8 +3,9 @@
 use crate::arguments::{
     AT, Argument, BYTES, CELLS, COUNT, DEPTH, DOT, EXPLAIN, EXPLAIN_FINDINGS, FILE, FIRST, FORMAT,
     FROM_TABLE, INDENT, INPUT, JOIN, Kind, LAST, LINE_WIDTH, MEMO, NODES, ONLY_TERMS, PATTERN,
-    RECLAIM, RESULT_NODES, RESULT_TABLES, RULE, RULES, SERVED_BYTES, SERVED_DEPTH, SIZES, SPENT,
-    STEPS, SYMBOL, TERM, TERM_BYTES, TERMS, TERMS_TABLE, TO_TABLE, WIDTH, arguments_of,
+    RECLAIM, REQUEST_TABLES, RESULT_NODES, RESULT_TABLES, RULE, RULES, SERVED_BYTES, SERVED_DEPTH,
+    SIZES, SPENT, STEPS, SYMBOL, TERM, TERM_BYTES, TERMS, TERMS_TABLE, TO_TABLE, WIDTH,
+    arguments_of,
 };
 use clap::Command;
 use std::alloc::{AllocError, Global};
@@ -116,6 +117,7 @@ const SERVE: Subcommand = Subcommand {
             help: "File with a term on each line, or - [default: standard input]",
             kind: Kind::Word,
         },
+        REQUEST_TABLES,
         STEPS,
         CELLS,
         MEMO,

@@ -32,7 +32,7 @@ pub enum TermChoice {
 pub struct EvalOptions {
     /// The terms that are evaluated.
     pub terms: TermChoice,
-    /// The form in which input terms are read.
+    /// The form in which input terms or requests are read.
     pub input: InputForm,
     /// The step limit of each term.
     pub steps: u64,
@@ -110,7 +110,7 @@ pub struct Shown<'a> {
 pub fn options_of(matches: &ArgMatches<'_>) -> Option<EvalOptions> {
     Some(EvalOptions {
         terms: choice_of(matches),
-        input: form_by(matches, "terms-table"),
+        input: input_of(matches),
         steps: matches.get_one::<u64>("steps")?.min(MOST_STEPS),
         cells: matches.get_one::<u32>("cells")?.clamp(1, MOST_CELLS),
         memo: number_of(matches, "memo", MEMO).min(MOST_RESULTS),
@@ -174,9 +174,17 @@ fn form_by(inner: &ArgMatches<'_>, id: &str) -> InputForm {
     }
 }
 
-/// Returns the form in which a term is read.
+/// Returns the form in which a term is read, or the requests of a session are.
 fn form_of(inner: &ArgMatches<'_>) -> InputForm {
     form_by(inner, "from-table")
+}
+
+/// Returns the form in which input terms or requests are read.
+fn input_of(inner: &ArgMatches<'_>) -> InputForm {
+    match form_by(inner, "terms-table") {
+        InputForm::Term => form_of(inner),
+        InputForm::Table => InputForm::Table,
+    }
 }
 
 /// Returns the run of `aterm` without `--indent`.

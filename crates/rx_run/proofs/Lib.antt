@@ -12,7 +12,6 @@ pub mod ReadDueLemmas
 mod ReadLemmas
 pub mod RefusedItemLemmas
 pub mod ReportLemmas
-pub mod StreamLemmas
 mod TableLineLemmas
 pub mod TermDueLemmas
 mod TermLineLemmas

@@ -1,8 +1,8 @@
 -- The state of the reader and the writer after a run. A stream has failed exactly if it had failed
 -- before, or if its error is returned.
-use Rattle.std.specs.Prelude.{◌≡◌, ◌||◌, Bool, false, true, Result, Ok, Err, MatchResult}
-use Rattle.rx_text.specs.Input.{HasRefusedRead, IsReadable, IsSameInput}
-use Rattle.rx_text.specs.Output.{HasRefusedWrite, IsSameOutput, IsWritable}
+use Rattle.std.specs.Prelude.{◌≡◌, ◌||◌, Bool, false, true, Result, Ok, Err}
+use Rattle.rx_text.specs.Input.{IsSameInput}
+use Rattle.rx_text.specs.Output.{IsSameOutput}
 use Rattle.rx_text.specs.declared.input.Input.{Input}
 use Rattle.rx_text.specs.declared.output.Output.{Output}
 use Rattle.rx_run.specs.declared.ending.RunFault.{RunFault}
@@ -43,16 +43,3 @@ ReportsWrite old new r = IsSameOutput old new × (new.refused ≡ (returns is_wr
 abbrev pub ReportsBoth : {R W T : Type 0} → Input R → Input R → Output W → Output W
     → Result T RunFault → Type 0
 ReportsBoth old new old' new' r = ReportsRead old new r × ReportsWrite old' new' r
-
--- To be removed: ReportsRead and ReportsWrite include these two.
-module _ {R : Type 0} where
-  -- TellsRead new r: after success the input is usable; the error `Read` implies that it has failed
-  abbrev pub TellsRead : {T : Type 0} → Input R → Result T RunFault → Type 0
-  TellsRead new r = MatchResult r (λ _. IsReadable new) (λ f. f ≡ fault.Read → HasRefusedRead new)
-
-module _ {W : Type 0} where
-  -- TellsWrite new r: after success the output is usable; the error `Write` implies that it has
-  -- failed
-  abbrev pub TellsWrite : {T : Type 0} → Output W → Result T RunFault → Type 0
-  TellsWrite new r = MatchResult r (λ _. IsWritable new)
-      (λ f. f ≡ fault.Write → HasRefusedWrite new)

@@ -2,9 +2,10 @@ pub mod SubtermLemmas
 pub mod TableLemmas
 pub mod ShortLemmas
 pub mod WalkLemmas
+pub mod PartLemmas
 pub mod MadeLemmas
-pub mod EntryLemmas
+pub mod ElementLemmas
 pub mod SharedLemmas
 pub mod OpenedLemmas
-pub mod OpeningLemmas
+pub mod ReadingLemmas
 pub mod CountedPartLemmas

@@ -1,65 +1,26 @@
--- Terms of one store that were made of the terms of another.
-use Rattle.std.proofs.Common.{◌≡◌, ℕ, ◌+◌, ◌<◌, ◌≤◌, ◌==◌, ℤ, Bool, true, false, cond, List, [], ◌∷◌, ◌++◌}
-use Rattle.std.proofs.Common.{Option, Some, None, IsSome, refl, sym, ap, subst, ◌∙◌, append_assoc, append-nil, length, arith, eq-eqb, Result, Ok, Err, IfOk}
-use Rattle.std.specs.Prelude.{nat_eq, nat_lt, ◌&&◌}
+-- Terms of one store that were made of the parts of a tree of another.
+use Rattle.std.proofs.Common.{◌≡◌, ℕ, zero, suc, ◌+◌, ◌<◌, ◌≤◌, ◌==◌, Bool, true, false, List, [], ◌∷◌, ◌++◌}
+use Rattle.std.proofs.Common.{Option, Some, IsSome, Result, Ok, Err, IfOk, refl, sym, ap, subst, ◌∙◌, append_assoc, append-nil, length, length-append, map, take, drop, get_or, arith, eq-eqb}
+use Rattle.std.specs.Prelude.{nat_lt, ◌&&◌}
 use Rattle.std.specs.List.{list_all}
-use Rattle.std.specs.Option.{option_and_then, option_map}
-use Rattle.std.proofs.lemmas.Bool.Decides.{Decides-eqb}
-use Rattle.indexmap.specs.IndexMap.{IndexMap, get}
-use Rattle.rx_term.specs.Name.{IsAllowed, Signature, is_allowed}
-use Rattle.rx_term.specs.Tree.{Tree, Trees, Int, Appl, Items, Hole, none, more, annotated, annotations, count_of, items_of, list_of, to_list}
-use Rattle.rx_term.specs.Store.{Store, tree_at, signature_of, name_at, quoted_at, part_at, args_of, inner_of, longer, applied, noted}
-use Rattle.rx_term.specs.Steps.{Grows, IsSound, Makes}
-use Rattle.rx_term.specs.Kinds.{HasInt, HasNil, HasCons, HasAppl, HasHole}
+use Rattle.std.specs.Option.{option_and_then}
+use Rattle.std.proofs.lemmas.List.{get_or-map, get_or-take, length-map, length-take-le, same_from_push, take_all, take_more}
+use Rattle.rx_term.specs.Name.{IsAllowed, is_allowed}
+use Rattle.rx_term.specs.Tree.{Tree, Trees, Int, Appl, Items, Hole, none, more, annotated, annotations, count_of, list_of, to_list}
+use Rattle.rx_term.specs.Store.{Store, tree_at, signature_of, name_at, quoted_at, longer, applied}
+use Rattle.rx_term.specs.Steps.{Grows, IsSound, Makes, MakesOrRefuses}
+use Rattle.rx_term.specs.declared.faults.BankFault.{BankFault}
+use Rattle.rx_term.specs.Kinds.{HasCons, HasAppl}
 use Rattle.rx_term.specs.Walks.{HaveTrees, held_tree}
 use Rattle.rx_term.specs.declared.Term.{Term}
 use Rattle.rx_term.specs.declared.Symbol.{Symbol}
 use Rattle.rx_term.proofs.StoreLemmas.{Grows-Makes, Grows-trans, some-value}
-use Rattle.rx_table.specs.Opened.{both}
 use Rattle.rx_table.specs.Table.{direct}
-use Rattle.rx_table.specs.Inner.Walk.{AreThere, Begun, IsList, Pushes, body_items, term_of, trees_of}
-use Rattle.rx_table.specs.Inner.Made.{AreMade, Gives, HasAll, HasOne, IsBare, IsListOf, Made, content_of, each, remade}
-use Rattle.rx_table.specs.declared.made.Content.{Content}
-use Rattle.rx_table.proofs.SubtermLemmas.{all-left, all-right}
-use Rattle.rx_table.proofs.WalkLemmas.{HaveLast, direct-both, held-at, held-is, some-tree, have-last, have-none, items_at}
-
--- ---- a store that has grown
-
-pub held-grown : (w v : Store) → Grows w v → (r : Term) → IsSome (tree_at w r) → held_tree v r ≡ held_tree w r
-held-grown w v g r h = held-is v r (held_tree w r) (g.trees r (held_tree w r) (held-at w r h))
-
-pub some-grown : (w v : Store) → Grows w v → (r : Term) → IsSome (tree_at w r) → IsSome (tree_at v r)
-some-grown w v g r h = some-tree v r (held_tree w r) (g.trees r (held_tree w r) (held-at w r h))
-
-pub tree-grown : (w v : Store) → Grows w v → (r : Term) → IsSome (tree_at w r) → tree_at v r ≡ tree_at w r
-tree-grown w v g r h = g.trees r (held_tree w r) (held-at w r h) ∙ sym (held-at w r h)
-
-module _ {S : Type 0} where
-  pub are-made : (v w : Store) (f : Tree → Option Tree) (made : IndexMap ℕ Term S) → Made v w f made → AreMade w made
-  are-made v w f made m n r got = (m n r got).0
-
-  pub are-grown : (w u : Store) → Grows w u → (made : IndexMap ℕ Term S) → AreMade w made → AreMade u made
-  are-grown w u g made m n r got = some-grown w u g r (m n r got)
-
-  pub made-grown : (v w u : Store) → Grows w u → (f : Tree → Option Tree) (made : IndexMap ℕ Term S) → Made v w f made → Made v u f made
-  made-grown v w u g f made m n r got =
-      let k = m n r got in
-      (some-grown w u g r k.0, λ t at. k.1 t at ∙ sym (tree-grown w u g r k.0))
-
-  -- what is looked up
-  pub one-got : (v : Store) → IsSound v → (made : IndexMap ℕ Term S) (t : Term) (u : Tree) → tree_at v t ≡ Some u → HasOne v made u
-      → IsSome (get nat_eq made t.0)
-  one-got v sound made t u at (n, here, got) =
-      let same : term_of n ≡ t = sound.one_to_one (term_of n) t u here at in
-      subst (λ (x : Term). IsSome (get nat_eq made x.0)) same got
-
-  -- a tree that a term was made of
-  pub one-made : (v w : Store) (f : Tree → Option Tree) (made : IndexMap ℕ Term S) (t : Tree) → Made v w f made → HasOne v made t → IsSome (f t)
-  one-made v w f made t m (n, at, got) = by (get nat_eq made n) refl
-    where
-      by : (o : Option Term) → get nat_eq made n ≡ o → IsSome (f t)
-      by None e = absurd (let k = rw e at got in cc k)
-      by (Some r) e = let k = m n r e in subst IsSome (sym (k.1 t at)) k.0
+use Rattle.rx_table.specs.Inner.Walk.{AreBelow, HasParts, IsList, body_items, part_tree, term_of, trees_at, trees_of}
+use Rattle.rx_table.specs.Inner.Made.{AreMade, IsBare, each, picked, remade}
+use Rattle.rx_table.proofs.WalkLemmas.{direct-both, have-both, have-grown, have-last, have-none, held-is, items_at, map-both, some-tree}
+use Rattle.rx_table.specs.declared.walk.Parts.{Parts}
+use Rattle.rx_table.proofs.PartLemmas.{different-last, taken-more}
 
 -- ---- lists of references
 
@@ -138,145 +99,83 @@ making-ends w all left v list m e us h =
     let same : m.us ≡ us = to-same m.us us (sym (m.is ∙ ap (λ z. z ++ to_list m.us) none-left) ∙ have-same w all m.whole (to_list us) m.all-have h) in
     subst (λ z. tree_at v list ≡ Some (list_of z)) same m.here
 
--- ---- a list of what was made, under way
+-- the last of the first items
+pub taken-last : (items : List Term) (n m : ℕ) (d : Term) → n ≡ m + 1 → n ≤ length items → take n items ≡ take m items ++ get_or items m d ∷ []
+taken-last items n m d e le = ap (λ z. take z items) e ∙ take_more items m d (omega (arith, e, le))
 
-each-more : (f : Tree → Option Tree) (t u : Tree) (ts us : Trees) → f t ≡ Some u → each f ts ≡ Some us → each f (more t ts) ≡ Some (more u us)
-each-more f t u ts us e k = rw (e, k) refl
+-- ---- what is made of trees, in order
 
-module _ {S : Type 0} where
-  -- the items `whole` of a list of `v`; the terms of the last of them are in `list`
-  pub record Listing (v w : Store) (made : IndexMap ℕ Term S) (whole : Trees) (left : List Term) (u : Store) (list : Term) : Type 0 where
-    pub front : List Tree
-    pub back : Trees
-    pub us : Trees
-    pub is : to_list whole ≡ front ++ to_list back
-    pub have : HaveTrees v left front
-    pub has : HasAll v made front
-    pub grows : Grows w u
-    pub here : tree_at u list ≡ Some (list_of us)
-    pub counted : count_of us ≡ count_of back
-    pub each-is : (f : Tree → Option Tree) → Made v w f made → each f back ≡ Some us
+each-list : (f : Tree → Tree) (ts : Trees) → to_list (each f ts) ≡ map f (to_list ts)
+each-list f none = refl
+each-list f (more t ts) = ap (λ z. f t ∷ z) (each-list f ts)
 
-  pub listing-begins : (v w u : Store) (made : IndexMap ℕ Term S) (whole : Trees) (old left : List Term) (list : Term) → old ≡ []
-      → Pushes v old left (to_list whole) → HasAll v made (to_list whole) → Makes w u (Some (Items none none)) list
-      → Listing v w made whole left u list
-  listing-begins v w u made whole old left list e (added, is, have) has m = record {
-    front = to_list whole;
-    back = none;
-    us = none;
-    is = sym (append-nil (to_list whole));
-    have = subst (λ rs. HaveTrees v rs (to_list whole)) (sym (is ∙ ap (λ z. z ++ added) e)) have;
-    has = has;
-    grows = Grows-Makes m;
-    here = m.made;
-    counted = refl;
-    each-is = λ f k. refl;
-  }
+each-count : (f : Tree → Tree) (ts : Trees) → count_of (each f ts) ≡ count_of ts
+each-count f none = refl
+each-count f (more t ts) = let k = each-count f ts in omega (arith, k)
 
-  module _ (v w : Store) (made : IndexMap ℕ Term S) (whole : Trees) (left less : List Term) (u : Store) (list item : Term)
-      (m : Listing v w made whole left u list) (e : left ≡ less ++ item ∷ []) where
-    last-of : HaveLast v less item m.front
-    last-of = have-last v less item m.front (subst (λ z. HaveTrees v z m.front) e m.have)
+pub each-have : (w : Store) (items : List Term) (f : Tree → Tree) (ts : Trees) → HaveTrees w items (map f (to_list ts)) → HaveTrees w items (to_list (each f ts))
+each-have w items f ts h = subst (HaveTrees w items) (sym (each-list f ts)) h
 
-    pub listing-has : IsSound v → IsSome (get nat_eq made item.0)
-    listing-has sound =
-        let one = (all-right (HasOne v made) last-of.front (last-of.last ∷ []) (subst (HasAll v made) last-of.is m.has)).0 in
-        one-got v sound made item last-of.last last-of.here one
+pub have-count : (w : Store) (rs : List Term) (ts : List Tree) → HaveTrees w rs ts → length rs ≡ length ts
+have-count w [] [] h = refl
+have-count w (r ∷ rs) (t ∷ ts) h = let k = have-count w rs ts h.1 in omega (arith, k)
+have-count w [] (t ∷ ts) h = absurd h
+have-count w (r ∷ rs) [] h = absurd h
 
-    pub listing-longer : AreMade w made → (r : Term) → get nat_eq made item.0 ≡ Some r → IsSome (longer (tree_at u r) (tree_at u list))
-    listing-longer held r got =
-        let there = some-grown w u m.grows r (held item.0 r got) in
-        let k = longer-is u r list (held_tree u r) m.us (held-at u r there) m.here in rw k refl
+pub have-split : (w : Store) (rs : List Term) (xs ys : List Tree) → HaveTrees w rs (xs ++ ys)
+    → HaveTrees w (take (length xs) rs) xs × HaveTrees w (drop (length xs) rs) ys
+have-split w rs [] ys h = (tt, h)
+have-split w (r ∷ rs) (x ∷ xs) ys h = let k = have-split w rs xs ys h.1 in ((h.0, k.0), k.1)
+have-split w [] (x ∷ xs) ys h = absurd h
 
-    pub listing-next : AreMade w made → (r : Term) → get nat_eq made item.0 ≡ Some r → (x : Store) (new : Term)
-        → Makes u x (longer (tree_at u r) (tree_at u list)) new → Listing v w made whole less x new
-    listing-next held r got x new n =
-        let l = last-of in
-        let there = held item.0 r got in
-        let at : tree_at u r ≡ Some (held_tree w r) = m.grows.trees r (held_tree w r) (held-at w r there) in
-        record {
-          front = l.front;
-          back = more l.last m.back;
-          us = more (held_tree w r) m.us;
-          is = m.is ∙ ap (λ z. z ++ to_list m.back) l.is ∙ append_assoc l.front (l.last ∷ []) (to_list m.back);
-          have = l.have;
-          has = all-left (HasOne v made) l.front (l.last ∷ []) (subst (HasAll v made) l.is m.has);
-          grows = Grows-trans m.grows (Grows-Makes n);
-          here = n.made ∙ longer-is u r list (held_tree w r) m.us at m.here;
-          counted = (let k = m.counted in omega (arith, k));
-          each-is = λ f k. each-more f l.last (held_tree w r) m.back m.us ((k item.0 r got).1 l.last l.here ∙ held-at w r there) (m.each-is f k);
-        }
+have-place : (w : Store) (rs : List Term) (ts : List Tree) (i : ℕ) (d : Term) (e : Tree) → HaveTrees w rs ts → i < length rs
+    → tree_at w (get_or rs i d) ≡ Some (get_or ts i e)
+have-place w [] ts i d e h lt = absurd (omega (arith, lt))
+have-place w (r ∷ rs) (t ∷ ts) zero d e h lt = h.0
+have-place w (r ∷ rs) (t ∷ ts) (suc i) d e h lt = have-place w rs ts i d e h.1 (omega (arith, lt))
+have-place w (r ∷ rs) [] i d e h lt = absurd h
 
-  module _ (v w : Store) (made : IndexMap ℕ Term S) (whole : Trees) (left : List Term) (u : Store) (list : Term)
-      (m : Listing v w made whole left u list) (e : left ≡ []) where
-    all-back : m.back ≡ whole
-    all-back =
-        let none-left : m.front ≡ [] = have-none v m.front (subst (λ z. HaveTrees v z m.front) e m.have) in
-        to-same m.back whole (sym (m.is ∙ ap (λ z. z ++ to_list m.back) none-left))
+-- ---- results
 
-    pub listing-ends : Gives v w made u (λ f. option_map list_of (each f whole)) list
-    listing-ends = (
-      some-tree u list (list_of m.us) m.here,
-      λ f k. ap (λ z. option_map list_of (each f z)) (sym all-back) ∙ ap (option_map list_of) (m.each-is f k) ∙ sym m.here,
-    )
+-- what holds of a result by another relation
+pub ok-by : {T E : Type 0} (P Q : T → Type 0) → ((x : T) → P x → Q x) → (r : Result T E) → IfOk r P → IfOk r Q
+ok-by P Q f (Ok x) h = f x h
+ok-by P Q f (Err e) h = tt
 
-    pub listing-counts : IsListOf u (count_of whole) list
-    listing-counts = (m.us, m.counted ∙ ap count_of all-back, m.here)
+pub made-by : (P : Term → Type 0) (old new : Store) (tree : Option Tree) → ((r : Term) → Makes old new tree r → P r) → (x : Result Term BankFault)
+    → MakesOrRefuses old new tree x → IfOk x P
+made-by P old new tree f (Ok r) m = f r m
+made-by P old new tree f (Err e) m = tt
 
 -- ---- trees without annotations
 
-pub bare-list : (u : Store) (n : ℕ) (r : Term) → IsListOf u n r → IsBare u r
-bare-list u n r (us, e, at) = (list_of us, at, refl)
-
-both-list : (o : Option Trees) → both Items o (Some none) ≡ option_map list_of o
-both-list None = refl
-both-list (Some us) = refl
-
-both-hole : (content : Content) (o : Option Tree) → both (λ t. Hole (content_of content t)) o (Some none) ≡ option_map (λ t. Hole (content_of content t) none) o
-both-hole content None = refl
-both-hole content (Some t) = refl
-
-module _ {S : Type 0} (v w u : Store) (made : IndexMap ℕ Term S) (content : Content) (t : Term) where
+module _ (v w u : Store) (t : Term) (items : List Term) where
   abbrev pub GivesBody : Term → Type 0
-  GivesBody r = Gives v w made u (λ f. remade content f (annotated (held_tree v t) none)) r
+  GivesBody r = (f : Tree → Tree) → HaveTrees w items (map f (body_items (held_tree v t)))
+      → tree_at u r ≡ Some (remade f (annotated (held_tree v t) none))
 
-  body-is : (x : Tree) → tree_at v t ≡ Some x → (r : Term) → Gives v w made u (λ f. remade content f (annotated x none)) r → GivesBody r
-  body-is x at r h = subst (λ z. Gives v w made u (λ f. remade content f (annotated z none)) r) (sym (held-is v t x at)) h
+  body-is : (x : Tree) → tree_at v t ≡ Some x → (r : Term)
+      → ((f : Tree → Tree) → HaveTrees w items (map f (body_items x)) → tree_at u r ≡ Some (remade f (annotated x none))) → GivesBody r
+  body-is x at r h = subst (λ z. (f : Tree → Tree) → HaveTrees w items (map f (body_items z)) → tree_at u r ≡ Some (remade f (annotated z none)))
+      (sym (held-is v t x at)) h
 
-  pub body-int : (z : ℤ) (r : Term) → HasInt v t z → Makes w u (Some (Int z none)) r → GivesBody r
-  body-int z r h m = body-is (Int z h.anns) h.here r (some-tree u r (Int z none) m.made, λ f k. sym m.made)
-
-  pub body-nil : (r : Term) → HasNil v t → Makes w u (Some (Items none none)) r → GivesBody r
-  body-nil r h m = body-is (Items none h.anns) h.here r (some-tree u r (Items none none) m.made, λ f k. sym m.made)
-
-  pub body-cons : (r : Term) → HasCons v t → Gives v w made u (λ f. option_map list_of (each f (items_of (held_tree v t)))) r → GivesBody r
+  pub body-cons : (r : Term) → HasCons v t → ((us : Trees) → HaveTrees w items (to_list us) → tree_at u r ≡ Some (list_of us)) → GivesBody r
   body-cons r h k =
-      let items = more h.first h.rest in
-      let is = held-is v t (Items items h.anns) h.here in
-      let l = subst (λ z. Gives v w made u (λ f. option_map list_of (each f (items_of z))) r) is k in
-      body-is (Items items h.anns) h.here r (l.0, λ f q. both-list (each f items) ∙ l.1 f q)
+      let ts = more h.first h.rest in
+      body-is (Items ts h.anns) h.here r (λ f q. k (each f ts) (each-have w items f ts q))
 
-  module _ (h : HasHole v t) (inner : Term) (at : tree_at v inner ≡ part_at inner_of v t) where
-    inner-at : tree_at v inner ≡ Some h.inside
-    inner-at = at ∙ ap (option_and_then inner_of) h.here
+  -- the items of a list
+  pub cons-have : HasCons v t → (f : Tree → Tree) → HaveTrees w items (map f (body_items (held_tree v t))) → (us : Trees) × HaveTrees w items (to_list us)
+  cons-have h f q =
+      let ts = more h.first h.rest in
+      let k = subst (λ z. HaveTrees w items (map f (body_items z))) (held-is v t (Items ts h.anns) h.here) q in
+      (each f ts, each-have w items f ts k)
 
-    pub hole-has : IsSound v → HasAll v made (body_items (held_tree v t)) → IsSome (get nat_eq made inner.0)
-    hole-has sound has =
-        let one = subst (λ z. HasAll v made (body_items z)) (held-is v t (Hole h.inside h.anns) h.here) has in
-        one-got v sound made inner h.inside inner-at one.0
-
-    pub body-hole : (x r : Term) → get nat_eq made inner.0 ≡ Some x → AreMade w made
-        → tree_at u r ≡ option_map (λ z. Hole (content_of content z) none) (tree_at w x) → GivesBody r × IsBare u r
-    body-hole x r got held is =
-        let there = held-at w x (held inner.0 x got) in
-        let y = Hole (content_of content (held_tree w x)) none in
-        let here : tree_at u r ≡ Some y = is ∙ ap (option_map (λ z. Hole (content_of content z) none)) there in (
-          body-is (Hole h.inside h.anns) h.here r (
-            some-tree u r y here,
-            λ f k. both-hole content (f h.inside) ∙ ap (option_map (λ z. Hole (content_of content z) none)) ((k inner.0 x got).1 h.inside inner-at) ∙ sym is,
-          ),
-          (y, here, refl),
-        )
+pub bare-remade : (f : Tree → Tree) (t : Tree) → annotations (remade f (annotated t none)) ≡ none
+bare-remade f (Int z anns) = refl
+bare-remade f (Appl name quoted args anns) = refl
+bare-remade f (Items items anns) = refl
+bare-remade f (Hole inner anns) = refl
 
 -- ---- applications
 
@@ -298,56 +197,31 @@ allowed-name v sound s h name quoted e f =
     (both-second (list_all (λ b. nat_lt b 256) g.0.name) (is_allowed g.0.name g.0.quoted) (sound.valid_names s g.0 is)))
 
 module _ (v : Store) (t : Term) (s : Symbol) (h : HasAppl v t s) where
-  module _ (args : Term) (at : tree_at v args ≡ part_at args_of v t) where
-    args-at : tree_at v args ≡ Some (list_of h.args)
-    args-at = at ∙ ap (option_and_then args_of) h.here
+  applied-is : (x : Store) (g : Symbol) → signature_of x g ≡ signature_of v s → (list : Term) (f : Tree → Tree)
+      → tree_at x list ≡ Some (list_of (each f h.args)) → applied (signature_of x g) (tree_at x list) ≡ Some (Appl h.name h.quoted (each f h.args) none)
+  applied-is x g sig list f here =
+      let named = sig ∙ h.symbol in
+      let same : (count_of (each f h.args) == count_of h.args) ≡ true = eq-eqb (count_of (each f h.args)) (count_of h.args) (each-count f h.args) in
+      rw (named, here, same) refl
 
-    args-items : items_of (held_tree v args) ≡ h.args
-    args-items = ap items_of (held-is v args (list_of h.args) args-at)
+  module _ (w : Store) (items : List Term) where
+    args-have : (f : Tree → Tree) → HaveTrees w items (map f (body_items (held_tree v t))) → HaveTrees w items (map f (to_list h.args))
+    args-have f q = subst (λ z. HaveTrees w items (map f (body_items z))) (held-is v t (Appl h.name h.quoted h.args h.anns) h.here) q
 
-    pub args-has : {S : Type 0} (made : IndexMap ℕ Term S) → HasAll v made (body_items (held_tree v t))
-        → HasAll v made (to_list (items_of (held_tree v args)))
-    args-has made k =
-        let l = subst (λ z. HasAll v made (body_items z)) (held-is v t (Appl h.name h.quoted h.args h.anns) h.here) k in
-        subst (λ z. HasAll v made (to_list z)) (sym args-items) l
+    pub args-listed : (f : Tree → Tree) → HaveTrees w items (map f (body_items (held_tree v t))) → (us : Trees) × HaveTrees w items (to_list us)
+    args-listed f q = (each f h.args, each-have w items f h.args (args-have f q))
 
-    applied-is : (x : Store) (g : Symbol) → signature_of x g ≡ signature_of v s → (list : Term) (us : Trees) → count_of us ≡ count_of (items_of (held_tree v args))
-        → tree_at x list ≡ Some (list_of us) → applied (signature_of x g) (tree_at x list) ≡ Some (Appl h.name h.quoted us none)
-    applied-is x g sig list us count here =
-        let named = sig ∙ h.symbol in
-        let e : count_of us ≡ count_of h.args = count ∙ ap count_of args-items in
-        let same : (count_of us == count_of h.args) ≡ true = eq-eqb (count_of us) (count_of h.args) e in
-        rw (named, here, same) refl
+    module _ (u x : Store) (grows : Grows u x) (g : Symbol) (sig : signature_of x g ≡ signature_of v s) (list : Term)
+        (listed : (us : Trees) → HaveTrees w items (to_list us) → tree_at u list ≡ Some (list_of us)) where
+      args-made : (f : Tree → Tree) → HaveTrees w items (map f (to_list h.args)) → tree_at x list ≡ Some (list_of (each f h.args))
+      args-made f q = grows.trees list (list_of (each f h.args)) (listed (each f h.args) (each-have w items f h.args q))
 
-    pub applied-there : (u x : Store) → Grows u x → (g : Symbol) → signature_of x g ≡ signature_of v s → (list : Term)
-        → IsListOf u (count_of (items_of (held_tree v args))) list → IsSome (applied (signature_of x g) (tree_at x list))
-    applied-there u x grows g sig list l =
-        let k = applied-is x g sig list l.0 l.1 (grows.trees list (list_of l.0) l.2) in rw k refl
+      pub applied-there : (f : Tree → Tree) → HaveTrees w items (map f (body_items (held_tree v t))) → IsSome (applied (signature_of x g) (tree_at x list))
+      applied-there f q = let k = applied-is x g sig list f (args-made f (args-have f q)) in rw k refl
 
-    pub body-appl : {S : Type 0} (w u x y : Store) (made : IndexMap ℕ Term S) (content : Content) → Grows u x → (g : Symbol) → signature_of x g ≡ signature_of v s
-        → (list r : Term) → IsListOf u (count_of (items_of (held_tree v args))) list
-        → Gives v w made u (λ f. option_map list_of (each f (items_of (held_tree v args)))) list
-        → Makes x y (applied (signature_of x g) (tree_at x list)) r
-        → Gives v w made y (λ f. remade content f (annotated (held_tree v t) none)) r × IsBare y r
-    body-appl w u x y made content grows g sig list r l gives m =
-        let here = l.2 in
-        let k = applied-is x g sig list l.0 l.1 (grows.trees list (list_of l.0) here) in
-        let b = Appl h.name h.quoted l.0 none in
-        let there : tree_at y r ≡ Some b = m.made ∙ k in (
-          body-is v w y made content t (Appl h.name h.quoted h.args h.anns) h.here r (
-            some-tree y r b there,
-            λ f q.
-                let e : option_map list_of (each f (items_of (held_tree v args))) ≡ Some (list_of l.0) = gives.1 f q ∙ here in
-                let d : option_map list_of (each f h.args) ≡ Some (list_of l.0) = ap (λ z. option_map list_of (each f z)) (sym args-items) ∙ e in
-                from-list (each f h.args) l.0 d ∙ sym there,
-          ),
-          (b, there, refl),
-        )
-      where
-        from-list : (o : Option Trees) (us : Trees) → option_map list_of o ≡ Some (list_of us)
-            → both (Appl h.name h.quoted) o (Some none) ≡ Some (Appl h.name h.quoted us none)
-        from-list None us e = absurd (cc e)
-        from-list (Some ts) us e = let same : ts ≡ us = cc e in ap (λ z. let o : Option Tree = Some (Appl h.name h.quoted z none) in o) same
+      pub body-appl : (y : Store) (r : Term) → Makes x y (applied (signature_of x g) (tree_at x list)) r → GivesBody v w y t items r
+      body-appl y r m = body-is v w y t items (Appl h.name h.quoted h.args h.anns) h.here r
+          (λ f q. m.made ∙ applied-is x g sig list f (args-made f q))
 
 -- ---- annotations
 
@@ -357,85 +231,140 @@ annotated-none (Appl name quoted args anns) e = ap (Appl name quoted args) (sym 
 annotated-none (Items items anns) e = ap (Items items) (sym e)
 annotated-none (Hole inner anns) e = ap (Hole inner) (sym e)
 
-module _ {S : Type 0} (v w : Store) (made : IndexMap ℕ Term S) (t : Tree) (body : Term) (bare : IsBare w body) where
-  pub annotated-bare : annotations t ≡ none → Gives v w made w (λ f. both annotated (tree_at w body) (each f (annotations t))) body
-  annotated-bare e = (
-    some-tree w body bare.0 bare.1,
-    λ f k.
-        let here = bare.1 in
-        let whole : both annotated (Some bare.0) (Some none) ≡ Some bare.0 = ap (λ z. let o : Option Tree = Some z in o) (annotated-none bare.0 bare.2) in
-        ap (λ z. both annotated (tree_at w body) (each f z)) e ∙ ap (λ z. both annotated z (Some none)) here ∙ whole ∙ sym here,
-  )
+no-trees : (w : Store) (us : Trees) → HaveTrees w [] (to_list us) → us ≡ none
+no-trees w none h = refl
+no-trees w (more u us) h = absurd h
 
-  pub annotated-some : (u x : Store) → Grows w u → (anns list r : Term) → tree_at v anns ≡ Some (list_of (annotations t))
-      → Gives v w made u (λ f. option_map list_of (each f (items_of (held_tree v anns)))) list
-      → IsListOf u (count_of (items_of (held_tree v anns))) list → Makes u x (noted (tree_at u body) (tree_at u list)) r
-      → Gives v w made x (λ f. both annotated (tree_at w body) (each f (annotations t))) r
-  annotated-some u x g anns list r at gives l m =
-      let here = l.2 in
-      let old = bare.1 in
-      let now : tree_at u body ≡ Some bare.0 = g.trees body bare.0 old in
-      let noted-is : noted (tree_at u body) (tree_at u list) ≡ Some (annotated bare.0 l.0) = (rw (now, here) refl) in
-      let there : tree_at x r ≡ Some (annotated bare.0 l.0) = m.made ∙ noted-is in
-      let is : items_of (held_tree v anns) ≡ annotations t = ap items_of (held-is v anns (list_of (annotations t)) at) in (
-        some-tree x r (annotated bare.0 l.0) there,
-        λ f q.
-            let e : option_map list_of (each f (annotations t)) ≡ Some (list_of l.0) = ap (λ z. option_map list_of (each f z)) (sym is) ∙ gives.1 f q ∙ here in
-            ap (λ z. both annotated z (each f (annotations t))) old ∙ from-list (each f (annotations t)) l.0 e ∙ sym there,
-      )
-    where
-      from-list : (o : Option Trees) (us : Trees) → option_map list_of o ≡ Some (list_of us)
-          → both annotated (Some bare.0) o ≡ Some (annotated bare.0 us)
-      from-list None us e = absurd (cc e)
-      from-list (Some ts) us e = let same : ts ≡ us = cc e in ap (λ z. let o : Option Tree = Some (annotated bare.0 z) in o) same
+module _ (w : Store) (body : Term) (bare : IsBare w body) (notes : List Term) where
+  same-body : (u : Tree) → tree_at w body ≡ Some u → u ≡ bare.0
+  same-body u at = let e : Some u ≡ Some bare.0 = sym at ∙ bare.1 in cc e
+
+  pub annotated-bare : notes ≡ [] → (u : Tree) (us : Trees) → tree_at w body ≡ Some u → HaveTrees w notes (to_list us) → tree_at w body ≡ Some (annotated u us)
+  annotated-bare e u us at h =
+      let empty : us ≡ none = no-trees w us (subst (λ z. HaveTrees w z (to_list us)) e h) in
+      let is : annotated u us ≡ u = ap (annotated u) empty ∙ annotated-none u (ap annotations (same-body u at) ∙ bare.2) in
+      at ∙ ap (λ z. let o : Option Tree = Some z in o) (sym is)
+
+both-noted : (f : Tree → Tree) (t : Tree) → annotated (remade f (annotated t none)) (each f (annotations t)) ≡ remade f t
+both-noted f (Int z anns) = refl
+both-noted f (Appl name quoted args anns) = refl
+both-noted f (Items items anns) = refl
+both-noted f (Hole inner anns) = refl
+
+-- ---- how many trees come before the annotations
+
+direct-count : (t : Tree) → length (direct t) ≡ length (body_items t) + length (to_list (annotations t))
+direct-count t = ap length (direct-both t) ∙ length-append (body_items t) (to_list (annotations t))
+
+-- the annotations that are left to be counted
+pub record Counting (w : Store) (t : Tree) (rest : Term) (count : ℕ) : Type 0 where
+  pub here : IsList w rest
+  pub left : count ≡ length (body_items t) + length (items_at w rest)
 
 -- ---- a part: a body with annotations
 
-both-noted : (content : Content) (f : Tree → Option Tree) (t : Tree)
-    → both annotated (remade content f (annotated t none)) (each f (annotations t)) ≡ remade content f t
-both-noted content f (Int z anns) = by (each f anns)
-  where
-    by : (o : Option Trees) → both annotated (Some (Int z none)) o ≡ option_map (Int z) o
-    by None = refl
-    by (Some us) = refl
-both-noted content f (Appl name quoted args anns) = by (each f args) (each f anns)
-  where
-    by : (a b : Option Trees) → both annotated (both (Appl name quoted) a (Some none)) b ≡ both (Appl name quoted) a b
-    by None b = refl
-    by (Some us) None = refl
-    by (Some us) (Some vs) = refl
-both-noted content f (Items items anns) = by (each f items) (each f anns)
-  where
-    by : (a b : Option Trees) → both annotated (both Items a (Some none)) b ≡ both Items a b
-    by None b = refl
-    by (Some us) None = refl
-    by (Some us) (Some vs) = refl
-both-noted content f (Hole inner anns) = by (f inner) (each f anns)
-  where
-    by : (a : Option Tree) (b : Option Trees)
-        → both annotated (both (λ t. Hole (content_of content t)) a (Some none)) b ≡ both (λ t. Hole (content_of content t)) a b
-    by None b = refl
-    by (Some x) None = refl
-    by (Some x) (Some vs) = refl
+module _ (v w : Store) (t : Term) (items : List Term) (f : Tree → Tree) (h : HaveTrees w items (map f (direct (held_tree v t)))) (count : ℕ)
+    (size : count ≡ length (body_items (held_tree v t))) where
+  split : HaveTrees w (take count items) (map f (body_items (held_tree v t))) × HaveTrees w (drop count items) (map f (to_list (annotations (held_tree v t))))
+  split =
+      let u = held_tree v t in
+      let e : map f (direct u) ≡ map f (body_items u) ++ map f (to_list (annotations u)) = ap (map f) (direct-both u)
+      ∙ map-both f (body_items u) (to_list (annotations u)) in
+      let n : length (map f (body_items u)) ≡ count = length-map (body_items u) f ∙ sym size in
+      subst (λ k. HaveTrees w (take k items) (map f (body_items u)) × HaveTrees w (drop k items) (map f (to_list (annotations u)))) n
+      (have-split w items (map f (body_items u)) (map f (to_list (annotations u))) (subst (HaveTrees w items) e h))
 
-module _ {S : Type 0} (v w u x : Store) (g : Grows w u) (made : IndexMap ℕ Term S) (content : Content) (t : Tree) (body r : Term)
-    (b : Gives v w made u (λ f. remade content f (annotated t none)) body)
-    (n : Gives v u made x (λ f. both annotated (tree_at u body) (each f (annotations t))) r) where
-  pub part-gives : Gives v w made x (λ f. remade content f t) r
-  part-gives = (
-    n.0,
-    λ f k.
-        sym (both-noted content f t) ∙ ap (λ z. both annotated z (each f (annotations t))) (b.1 f k) ∙ n.1 f (made-grown v w u g f made k),
-  )
+  pub body-have : HaveTrees w (take count items) (map f (body_items (held_tree v t)))
+  body-have = split.0
 
--- what holds of a result by another relation
-pub ok-by : {T E : Type 0} (P Q : T → Type 0) → ((x : T) → P x → Q x) → (r : Result T E) → IfOk r P → IfOk r Q
-ok-by P Q f (Ok x) h = f x h
-ok-by P Q f (Err e) h = tt
+  pub notes-have : (u : Store) → Grows w u → HaveTrees u (drop count items) (to_list (each f (annotations (held_tree v t))))
+  notes-have u g = have-grown w u g (drop count items) (to_list (each f (annotations (held_tree v t))))
+      (each-have w (drop count items) f (annotations (held_tree v t)) split.1)
 
-module _ {S : Type 0} (v : Store) (made : IndexMap ℕ Term S) (t : Tree) (h : HasAll v made (direct t)) where
-  pub body-has : HasAll v made (body_items t)
-  body-has = all-left (HasOne v made) (body_items t) (to_list (annotations t)) (subst (HasAll v made) (direct-both t) h)
+  pub count-within : count ≤ length items
+  count-within =
+      let u = held_tree v t in
+      let a = have-count w items (map f (direct u)) h in
+      let b = length-map (direct u) f in
+      let c = direct-count u in
+      omega (arith, a, b, c, size)
 
-  pub notes-have : HasAll v made (to_list (annotations t))
-  notes-have = all-right (HasOne v made) (body_items t) (to_list (annotations t)) (subst (HasAll v made) (direct-both t) h)
+  pub count-all : length items ≡ length (direct (held_tree v t))
+  count-all = have-count w items (map f (direct (held_tree v t))) h ∙ length-map (direct (held_tree v t)) f
+
+  module _ (u : Store) (body : Term) (b : GivesBody v w u t (take count items) body) where
+    pub part-bare : IsBare u body
+    part-bare = (remade f (annotated (held_tree v t) none), b f split.0, bare-remade f (held_tree v t))
+
+    pub part-gives : Grows w u → (x : Store) (r : Term)
+        → ((a : Tree) (us : Trees) → tree_at u body ≡ Some a → HaveTrees u (drop count items) (to_list us) → tree_at x r ≡ Some (annotated a us))
+        → tree_at x r ≡ Some (remade f (held_tree v t))
+    part-gives g x r k =
+        k (remade f (annotated (held_tree v t) none)) (each f (annotations (held_tree v t))) (b f split.0) (notes-have u g)
+        ∙ ap (λ z. let o : Option Tree = Some z in o) (both-noted f (held_tree v t))
+
+-- ---- the terms of the parts so far
+
+module _ (v : Store) (ns : List ℕ) (f : Tree → Tree) (w : Store) (made : List Term) (h : AreMade v ns f w made) where
+  made-at : (j : ℕ) → length made ≤ length ns → j < length made → tree_at w (get_or made j (record { 0 = 0 })) ≡ Some (f (part_tree v ns j))
+  made-at j le lt =
+      let n = length made in
+      let d : Tree = list_of none in
+      let k = length-take-le n ns le in
+      let l = length-map (take n ns) (λ m. held_tree v (term_of m)) in
+      have-place w made (map f (trees_of v (take n ns))) j (record { 0 = 0 }) (f d) h lt
+      ∙ ap (λ z. let o : Option Tree = Some z in o) (get_or-map f (trees_of v (take n ns)) j d (f d) (omega (arith, k, l, lt))
+      ∙ ap f (get_or-map (λ m. held_tree v (term_of m)) (take n ns) j 0 d (omega (arith, k, lt))
+      ∙ ap (λ m. held_tree v (term_of m)) (get_or-take n ns j 0 lt)))
+
+  -- those that were picked
+  pub picked-have : (js : List ℕ) → length made ≤ length ns → AreBelow (length made) js → HaveTrees w (picked made js) (map f (trees_at v ns js))
+  picked-have [] le b = tt
+  picked-have (j ∷ js) le b = (made-at j le b.0, picked-have js le b.1)
+
+  pub made-next : (u : Store) (r : Term) (new : List Term) → Grows w u → length made < length ns → tree_at u r ≡ Some (f (part_tree v ns (length made)))
+      → new ≡ made ++ r ∷ [] → AreMade v ns f u new
+  made-next u r new g lt is e =
+      let n = length made in
+      let size : length new ≡ n + 1 = ap length e ∙ length-append made (r ∷ []) in
+      let trees : map f (trees_of v (take (length new) ns)) ≡ map f (trees_of v (take n ns)) ++ f (part_tree v ns n) ∷ [] =
+      ap (λ z. map f (trees_of v (take z ns))) size ∙ ap (map f) (taken-more v ns n lt) ∙ map-both f (trees_of v (take n ns)) (part_tree v ns n ∷ []) in
+      subst (HaveTrees u new) (sym trees) (subst (λ z. HaveTrees u z (map f (trees_of v (take n ns)) ++ f (part_tree v ns n) ∷ [])) (sym e)
+      (have-both u made (r ∷ []) (map f (trees_of v (take n ns))) (f (part_tree v ns n) ∷ [])
+      (have-grown w u g made (map f (trees_of v (take n ns))) h) (is, tt)))
+
+-- those that the next part is made of
+pub next-have : (v : Store) (ns : List ℕ) (f : Tree → Tree) (w : Store) (made : List Term) → AreMade v ns f w made → length made < length ns
+    → (js slice : List ℕ) (items : List Term) → AreBelow (length made) js → trees_at v ns js ≡ direct (part_tree v ns (length made))
+    → items ≡ picked made js → slice ≡ ns → HaveTrees w items (map f (direct (part_tree v slice (length made))))
+next-have v ns f w made h lt js slice items below trees is same =
+    let a = picked-have v ns f w made h js (omega (arith, lt)) below in
+    let b = subst (λ z. HaveTrees w (picked made js) (map f z)) trees a in
+    subst (λ ks. HaveTrees w items (map f (direct (part_tree v ks (length made))))) (sym same)
+    (subst (λ z. HaveTrees w z (map f (direct (part_tree v ns (length made))))) (sym is) b)
+
+-- the last part is the tree
+pub made-last : (v : Store) (t : Tree) (parts : Parts) → HasParts v t parts → (f : Tree → Tree) (w : Store) (made : List Term)
+    → AreMade v parts.terms.keys f w made → length made ≡ length parts.terms.keys → (less : List Term) (r : Term) → made ≡ less ++ r ∷ []
+    → tree_at w r ≡ Some (f t)
+made-last v t parts p f w made h n less r e =
+    let (front, is) = different-last t in
+    let keys = parts.terms.keys in
+    let all : map f (trees_of v (take (length made) keys)) ≡ map f front ++ f t ∷ [] =
+    ap (λ z. map f (trees_of v z)) (take_all (length made) keys (omega (arith, n))) ∙ ap (map f) (p.trees ∙ is) ∙ map-both f front (t ∷ []) in
+    let l = have-last w less r (map f front ++ f t ∷ []) (subst (HaveTrees w (less ++ r ∷ [])) all
+    (subst (λ z. HaveTrees w z (map f (trees_of v (take (length made) keys)))) e h)) in
+    let same : f t ≡ l.last = (same_from_push (map f front) l.front (f t) l.last l.is).1 in
+    l.here ∙ ap (λ z. let o : Option Tree = Some z in o) (sym same)
+
+-- ---- copies
+
+each-same : (ts : Trees) → each (λ u. u) ts ≡ ts
+each-same none = refl
+each-same (more t ts) = let k = each-same ts in rw k refl
+
+pub copy-remade : (t : Tree) → remade (λ u. u) t ≡ t
+copy-remade (Int z anns) = let a = each-same anns in rw a refl
+copy-remade (Appl name quoted args anns) = let a = each-same args in let b = each-same anns in rw (a, b) refl
+copy-remade (Items items anns) = let a = each-same items in let b = each-same anns in rw (a, b) refl
+copy-remade (Hole inner anns) = let a = each-same anns in rw a refl

@@ -2,5 +2,6 @@
 pub mod Walk
 pub mod Shared
 pub mod Made
-pub mod Opening
+pub mod Reading
 pub mod Faults
+pub mod Elements

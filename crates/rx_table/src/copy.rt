@@ -1,17 +1,15 @@
 //! Copies of terms in other stores.
 
-ghost use Rattle.std.specs.Prelude.{◌≡◌, ℕ, IfErr, IfOk, IfSome, IsSome, OnOk, Some};
-ghost use Rattle.indexmap.specs.IndexMap.{IsEmpty};
+ghost use Rattle.std.specs.Prelude.{◌≡◌, ℕ, IfErr, IfOk, IfSome, IsSome, Some};
+ghost use Rattle.rx_term.specs.Tree.{Tree};
 ghost use Rattle.rx_term.specs.Parts.{part_count};
 ghost use Rattle.rx_term.specs.Store.{tree_at};
 ghost use Rattle.rx_term.specs.Steps.{Grows, IsBankRefusal};
 ghost use Rattle.rx_shared.specs.State.{store_of};
-ghost use Rattle.rx_table.specs.Inner.Walk.{AreThere, Begun, trees_of};
-ghost use Rattle.rx_table.specs.Inner.Made.{HasAll, Made};
+ghost use Rattle.rx_table.specs.Inner.Walk.{HasParts};
 
-use crate::made::{Content, made_of, make_part};
-use crate::walk::different_parts;
-use indexmap::IndexMap;
+use crate::made::make_next;
+use crate::walk::{Parts, find_parts};
 use rx_shared::SharedBank;
 use rx_term::{BankFault, Term, TermBank};
 use std::alloc::{AllocError, Global};
@@ -19,30 +17,26 @@ use std::alloc::{AllocError, Global};
 /// The number of cells of the largest store.
 const CELLS: u32 = 1 << 30;
 
-/// Copies each of the trees `parts`, of which each comes after those inside of it. `made` is empty;
-/// afterwards it has their copies.
+/// Copies the parts of a tree, and returns the copy of the last, which is the tree.
 fn copy_parts<B: TermBank, C: TermBank>(
     from: &B,
-    parts: &[u32],
-    made: &mut IndexMap<u32, Term>,
+    parts: &Parts,
     to: &mut C,
-) -> Result<(), BankFault>
-    requires parts { AreThere (B.store from.now) parts.now }
-    requires order { Begun (trees_of (B.store from.now) parts.now) }
-    requires empty { IsEmpty made.old }
-    ensures made { OnOk result (Made (B.store from.now) (C.store to.new) Some made.new) }
-    ensures has { OnOk result (HasAll (B.store from.now) made.new
-        (trees_of (B.store from.now) parts.now)) }
+) -> Result<Term, BankFault>
+    requires { (t : Tree) × HasParts (B.store from.now) t parts.now }
+    ensures copied { IfOk result (λ r. (t : Tree) → HasParts (B.store from.now) t parts.now
+        → tree_at (C.store to.new) r ≡ Some t) }
     ensures refused { IfErr result (IsBankRefusal (C.store to.new)) }
     ensures grows { Grows (C.store to.old) (C.store to.new) }
 {
-    for part in parts {
-        let copy = make_part(from, Term(*part), Content::Bare, made, to)?;
-        if made.insert(*part, copy).is_err() {
+    let mut made = Vec::new(*parts.terms.allocator());
+    while made.len() < parts.terms.len() {
+        let copy = make_next(from, parts, &made, to)?;
+        if made.push(copy).is_err() {
             return Err(BankFault::Memory);
         }
     }
-    Ok(())
+    Ok(made.pop().unwrap())
 }
 
 /// Makes, in the store `to`, the tree of a term of the store `from`. Fails like all functions that
@@ -60,12 +54,10 @@ pub fn copy_term<B: TermBank, C: TermBank>(
     ensures refused { IfErr result (IsBankRefusal (C.store to.new)) }
     ensures grows { Grows (C.store to.old) (C.store to.new) }
 {
-    let Ok(parts) = different_parts(alloc, from, t) else {
+    let Ok(parts) = find_parts(alloc, from, t) else {
         return Err(BankFault::Memory);
     };
-    let mut made = IndexMap::new(alloc);
-    copy_parts(from, parts.as_slice(), &mut made, to)?;
-    Ok(made_of(&made, t))
+    copy_parts(from, &parts, to)
 }
 
 /// Returns an empty store for as many cells as a store can have.

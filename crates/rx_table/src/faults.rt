@@ -1,17 +1,22 @@
-//! The error of making and opening a table.
+//! The error of making and reading a table.
 
 ghost use Rattle.std.specs.Prelude.{◌≡◌};
 
 use rx_term::BankFault;
+use rx_text::TextFault;
 use std::alloc::{AllocError, AllocFailed};
 use thiserror::Error;
 
-/// Why a table was not made, or not opened.
+/// Why a table was not made, or not read.
 #[derive(Clone, Copy, PartialEq, Eq, Debug, Drop, Error)]
 pub enum TableFault {
-    /// The table would have more than 2,147,483,648 shared parts.
-    #[error("the table has too many elements")]
+    /// The text has more than 16,777,216 bytes.
+    #[error("the text is too long")]
     Long,
+    /// The text has a syntax error: the token at this offset is the first that no valid text has
+    /// there.
+    #[error("the text is outside the grammar at {at}")]
+    Grammar { at: u32 },
     /// Error R1: the term is not a list without annotations that has an element.
     #[error("not a table")]
     NotTable,
@@ -56,6 +61,21 @@ impl From<BankFault> for TableFault {
         match fault {
             BankFault::Memory => TableFault::Memory,
             BankFault::Full => TableFault::Full,
+        }
+    }
+}
+
+impl From<TextFault> for TableFault {
+    ghost use Rattle.rx_table.specs.Inner.Faults.{fault_of_text};
+
+    ghost from_gives = { λ fault e. e ≡ fault_of_text fault };
+
+    fn from(fault: TextFault) -> Self {
+        match fault {
+            TextFault::Long => TableFault::Long,
+            TextFault::Grammar { at } => TableFault::Grammar { at },
+            TextFault::Memory => TableFault::Memory,
+            TextFault::Full => TableFault::Full,
         }
     }
 }

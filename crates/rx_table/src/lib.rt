@@ -4,40 +4,45 @@
 //! to be written, but its table has one element for each different part:
 //!
 //! ```text
-//! let table = make_table(alloc, &bank, term, &mut other)?; // [node(leaf,leaf),node(<0>,<0>),..]
-//! let again = open_table(alloc, &other, table, &mut bank)?; // the term
+//! write_table_to(alloc, &bank, term, &mut out)?; // [node(leaf,leaf),node(<0>,<0>),..]
+//! let again = read_table(alloc, &text, &mut bank)?; // the term
 //! ```
 //!
-//! **Stores.** Each function reads a term of one store, which it leaves as it is, and makes terms
-//! in another. [`copy_term`] copies a term by its parts, [`write_table_to`] prints the table of a
-//! term, and [`count_cells`] returns the number of cells of a term.
+//! **Functions.** [`write_table_to`] prints the table of a term, and [`read_table`] makes the term of
+//! the text of a table; [`open_nodes`] does so for a caller that has the nodes of the text already.
+//! [`copy_term`] copies a term by its parts into another store, and [`count_cells`] returns the number
+//! of cells of a term.
 //!
 //! **Form.** A table is an ordinary term: a list whose last element is the term. In an element, a
 //! placeholder `<k>` is the element with the number k, counted from 0, which comes earlier in the
 //! list; a placeholder `<t>` of the term itself is written `<[t]>`. So whatever reads and prints
-//! terms reads and prints tables. [`make_table`] makes the one table of a term: it has an element
-//! for each subterm that is used at least twice by the different subterms, and whose text has more
-//! than 8 bytes, each after those inside of it, from left to right. [`open_table`] makes the term of
-//! any table, so both together make the one table of its term.
+//! terms reads and prints tables. The table that is printed is the one table of the term: it has an
+//! element for each subterm that is used at least twice by the different subterms, and whose text has
+//! more than 8 bytes, each after those inside of it, from left to right. [`read_table`] reads any
+//! table.
 //!
 //! **Laws.** Opening the table of a term gives the term, the table is a valid term, and its elements
 //! but the last are distinct, used twice or more, and no more than the parts (module [`laws`]).
 //! `specs/Table.antt` and `specs/Opened.antt` define tables and their terms.
 //!
-//! **Errors.** [`TableFault`]: out of memory or out of cells; [`make_table`] also reports too many
-//! elements, and [`open_table`] a rule of tables that the given term breaks. Terms are only added;
-//! after an error those that were made so far stay until garbage is collected.
+//! **Errors.** Out of memory, also if a term that is printed or copied has more than 2,147,483,648
+//! parts; out of cells; and [`TableFault`] for a text that is too long, a syntax error, or a rule of
+//! tables that the text breaks. Terms are only added; after an error those that were made so far stay
+//! until garbage is collected.
 //!
-//! **Cost.** Expected time is in proportion to the cells of the given term or table and not to its
-//! occurrences: each different subterm is visited once. Only a tail that two lists have in common is
-//! walked once for each list.
+//! **Cost.** Printing and copying take expected time in proportion to the cells of the given term and
+//! not to its occurrences: each different subterm is visited once, and its reference is looked up once
+//! for each use. Only a tail that two lists have in common is walked once for each list. Reading takes
+//! expected time in proportion to the text, without recursion, and makes only the cells of the term: a
+//! stack has the terms of what was read, and for each the number of elements that have to come before
+//! it.
 #![tactic(auto)]
 
 mod copy;
 mod faults;
 pub mod laws;
 mod made;
-mod opening;
+mod reading;
 mod shared;
 mod table;
 #[cfg(test)]
@@ -46,5 +51,5 @@ mod walk;
 
 pub use copy::{copy_term, count_cells};
 pub use faults::TableFault;
-pub use opening::open_table;
-pub use table::{make_table, write_table_to};
+pub use reading::{open_nodes, read_table};
+pub use table::write_table_to;

@@ -1,15 +1,11 @@
 //! Terms that are made, in one store, of the parts of a term of another store.
 
-ghost use Rattle.std.specs.Prelude.{◌≡◌, IfErr, IfOk, IsSome, Some, nat_eq};
-ghost use Rattle.std.specs.Option.{option_map};
-ghost use Rattle.indexmap.specs.IndexMap.{get};
+ghost use Rattle.std.specs.Prelude.{◌≡◌, ◌+◌, ◌<◌, ◌≤◌, IfErr, IfOk, IsSome, Some, length, map};
 ghost use Rattle.rx_term.specs.Tree.{
-  Hole,
+  Tree,
   Trees,
   annotated,
   annotations,
-  count_of,
-  items_of,
   list_of,
   none,
   to_list,
@@ -17,76 +13,30 @@ ghost use Rattle.rx_term.specs.Tree.{
 ghost use Rattle.rx_term.specs.Store.{signature_of, tree_at};
 ghost use Rattle.rx_term.specs.Steps.{Grows, IsBankRefusal};
 ghost use Rattle.rx_term.specs.Walks.{HaveTrees, held_tree};
-ghost use Rattle.rx_table.specs.Opened.{both};
 ghost use Rattle.rx_table.specs.Table.{direct};
-ghost use Rattle.rx_table.specs.Inner.Walk.{IsList, body_items};
-ghost use Rattle.rx_table.specs.Inner.Made.{AreMade, Gives, HasAll, IsBare, IsListOf, content_of};
-ghost use Rattle.rx_table.specs.Inner.Made.{each, remade};
+ghost use Rattle.rx_table.specs.Inner.Walk.{AreBelow, HasParts, body_items, part_tree};
+ghost use Rattle.rx_table.specs.Inner.Made.{AreMade, IsBare, picked, remade};
 
-use crate::walk::push_items;
-use indexmap::IndexMap;
+use crate::walk::{Parts, inside_of};
 use rx_term::{BankFault, Kind, Symbol, Term, TermBank};
+use std::alloc::{AllocError, Global};
 
-/// What a placeholder has in it.
-#[derive(Clone, Copy, Drop)]
-pub(crate) enum Content {
-    /// The term that was made of its inner tree.
-    Bare,
-    /// The list of that term, as in a table.
-    Listed,
-}
-
-/// Returns the term that was made of a tree.
-pub(crate) fn made_of(made: &IndexMap<u32, Term>, t: Term) -> Term
-    requires { IsSome (get nat_eq made.now t.0) }
-    ensures { get nat_eq made.now t.0 ≡ Some result }
-{
-    *made.get(&t.0).unwrap()
-}
-
-/// Makes the list of these terms, which are removed.
-pub(crate) fn make_list<C: TermBank>(items: &mut Vec<Term>, to: &mut C) -> Result<Term, BankFault>
-    requires { (us : Trees) × HaveTrees (C.store to.old) items.old.items (to_list us) }
+/// Makes the list of these terms.
+fn make_list<C: TermBank>(items: &[Term], to: &mut C) -> Result<Term, BankFault>
+    requires { (us : Trees) × HaveTrees (C.store to.old) items.now (to_list us) }
     ensures list { IfOk result (λ r. (us : Trees)
-        → HaveTrees (C.store to.old) items.old.items (to_list us)
+        → HaveTrees (C.store to.old) items.now (to_list us)
         → tree_at (C.store to.new) r ≡ Some (list_of us)) }
     ensures refused { IfErr result (IsBankRefusal (C.store to.new)) }
     ensures grows { Grows (C.store to.old) (C.store to.new) }
 {
     let mut list = to.nil()?;
-    while let Some(item) = items.pop() {
-        list = to.cons(item, list)?;
+    let mut end = items.len();
+    while end > 0 {
+        end -= 1;
+        list = to.cons(items[end], list)?;
     }
     Ok(list)
-}
-
-/// Makes the list of the terms that were made of the items of a list.
-fn made_list<B: TermBank, C: TermBank>(
-    from: &B,
-    list: Term,
-    made: &IndexMap<u32, Term>,
-    to: &mut C,
-) -> Result<Term, BankFault>
-    requires list { IsList (B.store from.now) list }
-    requires has { HasAll (B.store from.now) made.now
-        (to_list (items_of (held_tree (B.store from.now) list))) }
-    requires made { AreMade (C.store to.old) made.now }
-    ensures list { IfOk result (Gives (B.store from.now) (C.store to.old) made.now (C.store to.new)
-        (λ f. option_map list_of (each f (items_of (held_tree (B.store from.now) list))))) }
-    ensures counted { IfOk result (IsListOf (C.store to.new)
-        (count_of (items_of (held_tree (B.store from.now) list)))) }
-    ensures refused { IfErr result (IsBankRefusal (C.store to.new)) }
-    ensures grows { Grows (C.store to.old) (C.store to.new) }
-{
-    let mut items = Vec::new(*made.allocator());
-    if push_items(from, list, &mut items).is_err() {
-        return Err(BankFault::Memory);
-    }
-    let mut new = to.nil()?;
-    while let Some(item) = items.pop() {
-        new = to.cons(made_of(made, item), new)?;
-    }
-    Ok(new)
 }
 
 /// Returns the symbol of the store `to` that has the signature of a symbol of the store `from`.
@@ -105,100 +55,127 @@ fn symbol_in<B: TermBank, C: TermBank>(
     to.symbol(name, from.quoted_of(symbol), from.arity_of(symbol))
 }
 
-/// Makes a placeholder of a term.
-fn made_hole<C: TermBank>(inner: Term, content: Content, to: &mut C) -> Result<Term, BankFault>
-    requires { IsSome (tree_at (C.store to.old) inner) }
-    ensures hole { IfOk result (λ r. tree_at (C.store to.new) r
-        ≡ option_map (λ t. Hole (content_of content t) none) (tree_at (C.store to.old) inner)) }
-    ensures refused { IfErr result (IsBankRefusal (C.store to.new)) }
-    ensures grows { Grows (C.store to.old) (C.store to.new) }
-{
-    match content {
-        Content::Bare => to.hole(inner),
-        Content::Listed => {
-            let nil = to.nil()?;
-            let list = to.cons(inner, nil)?;
-            to.hole(list)
-        }
-    }
-}
-
-/// Makes a tree without its annotations of the terms that were made of its items, its arguments or
-/// its inner tree.
-fn made_body<B: TermBank, C: TermBank>(
+/// Makes a tree without its annotations of the terms `items`, which were made of its items, its
+/// arguments or its inner tree.
+fn make_body<B: TermBank, C: TermBank>(
     from: &B,
     t: Term,
-    content: Content,
-    made: &IndexMap<u32, Term>,
+    items: &[Term],
     to: &mut C,
 ) -> Result<Term, BankFault>
     requires held { IsSome (tree_at (B.store from.now) t) }
-    requires has { HasAll (B.store from.now) made.now
-        (body_items (held_tree (B.store from.now) t)) }
-    requires made { AreMade (C.store to.old) made.now }
-    ensures body { IfOk result (Gives (B.store from.now) (C.store to.old) made.now (C.store to.new)
-        (λ f. remade content f (annotated (held_tree (B.store from.now) t) none))) }
-    ensures bare { IfOk result (IsBare (C.store to.new)) }
+    requires items { (f : Tree → Tree) × HaveTrees (C.store to.old) items.now
+        (map f (body_items (held_tree (B.store from.now) t))) }
+    ensures body { IfOk result (λ r. (f : Tree → Tree) → HaveTrees (C.store to.old) items.now
+        (map f (body_items (held_tree (B.store from.now) t))) → tree_at (C.store to.new) r
+        ≡ Some (remade f (annotated (held_tree (B.store from.now) t) none))) }
     ensures refused { IfErr result (IsBankRefusal (C.store to.new)) }
     ensures grows { Grows (C.store to.old) (C.store to.new) }
 {
     match from.kind(t) {
         Kind::Int(value) => to.int(value),
         Kind::Nil => to.nil(),
-        Kind::Cons => made_list(from, t, made, to),
+        Kind::Cons => make_list(items, to),
         Kind::Appl(symbol) => {
-            let args = made_list(from, from.args(t), made, to)?;
+            let args = make_list(items, to)?;
             let symbol = symbol_in(from, symbol, to)?;
             to.appl(symbol, args)
         }
-        Kind::Hole => made_hole(made_of(made, from.inner(t)), content, to),
+        Kind::Hole => to.hole(items[0]),
     }
 }
 
-/// Annotates `body` with the terms that were made of the annotations of `t`.
-pub(crate) fn annotate<B: TermBank, C: TermBank>(
-    from: &B,
-    t: Term,
-    body: Term,
-    made: &IndexMap<u32, Term>,
-    to: &mut C,
-) -> Result<Term, BankFault>
-    requires held { IsSome (tree_at (B.store from.now) t) }
+/// Annotates `body` with the terms `notes`.
+fn annotate<C: TermBank>(body: Term, notes: &[Term], to: &mut C) -> Result<Term, BankFault>
     requires body { IsBare (C.store to.old) body }
-    requires has { HasAll (B.store from.now) made.now
-        (to_list (annotations (held_tree (B.store from.now) t))) }
-    requires made { AreMade (C.store to.old) made.now }
-    ensures annotated { IfOk result (Gives (B.store from.now) (C.store to.old) made.now
-        (C.store to.new) (λ f. both annotated (tree_at (C.store to.old) body)
-        (each f (annotations (held_tree (B.store from.now) t))))) }
+    requires notes { (us : Trees) × HaveTrees (C.store to.old) notes.now (to_list us) }
+    ensures annotated { IfOk result (λ r. (u : Tree) (us : Trees)
+        → tree_at (C.store to.old) body ≡ Some u
+        → HaveTrees (C.store to.old) notes.now (to_list us)
+        → tree_at (C.store to.new) r ≡ Some (annotated u us)) }
     ensures refused { IfErr result (IsBankRefusal (C.store to.new)) }
     ensures grows { Grows (C.store to.old) (C.store to.new) }
 {
-    match from.anns(t) {
-        None => Ok(body),
-        Some(anns) => {
-            let list = made_list(from, anns, made, to)?;
-            to.annotated(body, list)
-        }
+    if notes.is_empty() {
+        return Ok(body);
     }
+    let list = make_list(notes, to)?;
+    to.annotated(body, list)
 }
 
-/// Makes a tree of the terms that were made of the trees one step inside of it.
-pub(crate) fn make_part<B: TermBank, C: TermBank>(
+/// Returns how many of the `count` trees one step inside of a tree come before its annotations.
+fn body_count<B: TermBank>(bank: &B, t: Term, count: usize) -> usize
+    requires held { IsSome (tree_at (B.store bank.now) t) }
+    requires count { count ≡ length (direct (held_tree (B.store bank.now) t)) }
+    ensures { result ≡ length (body_items (held_tree (B.store bank.now) t)) }
+{
+    let Some(mut rest) = bank.anns(t) else {
+        return count;
+    };
+    let mut left = count;
+    while let Kind::Cons = bank.kind(rest) {
+        left -= 1;
+        rest = bank.tail(rest);
+    }
+    left
+}
+
+/// Makes a tree of the terms `items`, which were made of the trees one step inside of it.
+fn make_part<B: TermBank, C: TermBank>(
     from: &B,
     t: Term,
-    content: Content,
-    made: &IndexMap<u32, Term>,
+    items: &[Term],
     to: &mut C,
 ) -> Result<Term, BankFault>
     requires held { IsSome (tree_at (B.store from.now) t) }
-    requires has { HasAll (B.store from.now) made.now (direct (held_tree (B.store from.now) t)) }
-    requires made { AreMade (C.store to.old) made.now }
-    ensures part { IfOk result (Gives (B.store from.now) (C.store to.old) made.now (C.store to.new)
-        (λ f. remade content f (held_tree (B.store from.now) t))) }
+    requires items { (f : Tree → Tree) × HaveTrees (C.store to.old) items.now
+        (map f (direct (held_tree (B.store from.now) t))) }
+    ensures part { IfOk result (λ r. (f : Tree → Tree) → HaveTrees (C.store to.old) items.now
+        (map f (direct (held_tree (B.store from.now) t)))
+        → tree_at (C.store to.new) r ≡ Some (remade f (held_tree (B.store from.now) t))) }
     ensures refused { IfErr result (IsBankRefusal (C.store to.new)) }
     ensures grows { Grows (C.store to.old) (C.store to.new) }
 {
-    let body = made_body(from, t, content, made, to)?;
-    annotate(from, t, body, made, to)
+    let (items, notes) = items.split_at(body_count(from, t, items.len()));
+    let body = make_body(from, t, items, to)?;
+    annotate(body, notes, to)
+}
+
+/// Returns the terms with these indices.
+fn pick(alloc: Global, made: &[Term], inside: &[u32]) -> Result<Vec<Term>, AllocError>
+    requires { AreBelow (length made.now) inside.now }
+    ensures { IfOk result (λ found. found.items ≡ picked made.now inside.now) }
+{
+    let mut found = Vec::new(alloc);
+    for index in inside {
+        found.push(made[*index as usize])?;
+    }
+    Ok(found)
+}
+
+/// Makes the part that follows those that the terms `made` were made of.
+pub(crate) fn make_next<B: TermBank, C: TermBank>(
+    from: &B,
+    parts: &Parts,
+    made: &[Term],
+    to: &mut C,
+) -> Result<Term, BankFault>
+    requires next { length made.now < length parts.now.terms.keys }
+    requires parts { (t : Tree) × HasParts (B.store from.now) t parts.now }
+    requires made { (f : Tree → Tree)
+        × AreMade (B.store from.now) parts.now.terms.keys f (C.store to.old) made.now }
+    ensures part { IfOk result (λ r. (f : Tree → Tree)
+        → AreMade (B.store from.now) parts.now.terms.keys f (C.store to.old) made.now
+        → tree_at (C.store to.new) r ≡ Some (remade f
+        (part_tree (B.store from.now) parts.now.terms.keys (length made.now)))) }
+    ensures refused { IfErr result (IsBankRefusal (C.store to.new)) }
+    ensures grows { Grows (C.store to.old) (C.store to.new) }
+{
+    let alloc = *parts.terms.allocator();
+    let index = made.len();
+    let Ok(items) = pick(alloc, made, inside_of(parts, index)) else {
+        return Err(BankFault::Memory);
+    };
+    let part = Term(parts.terms.as_slice()[index]);
+    make_part(from, part, &items, to)
 }

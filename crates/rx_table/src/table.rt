@@ -1,161 +1,165 @@
-//! Makes and prints the table of a term.
+//! Prints the table of a term.
 
-ghost use Rattle.std.specs.Prelude.{◌≡◌, ◌∷◌, ◌<◌, ◌≤◌, ◌^◌, [], IfErr, IfOk, IfSome, IsErrOf};
-ghost use Rattle.std.specs.Prelude.{◌++◌, IsSome, OnErr, OnOk, Some, cond, length, nat_eq};
-ghost use Rattle.std.specs.List.{list_any, position_or_len};
-ghost use Rattle.indexmap.specs.IndexMap.{IsEmpty};
-ghost use Rattle.rx_term.specs.Store.{cells, tree_at};
-ghost use Rattle.rx_term.specs.Steps.{Grows, IsBankRefusal};
-ghost use Rattle.rx_term.specs.Walks.{HaveTrees, held_tree};
+ghost use Rattle.std.specs.Prelude.{◌≡◌, ◌+◌, ◌<◌, ◌≤◌, ◌^◌, IfOk, IfSome, IsSome, OnErr, OnOk};
+ghost use Rattle.std.specs.Prelude.{None, Some, cond, length, map};
+ghost use Rattle.rx_term.specs.Tree.{Tree};
+ghost use Rattle.rx_term.specs.Store.{tree_at};
+ghost use Rattle.rx_term.specs.Walks.{held_tree};
 ghost use Rattle.rx_text.specs.Canon.{canon};
 ghost use Rattle.rx_text.specs.Output.{ReportsFault, Writes, WritesFront};
-ghost use Rattle.rx_table.specs.Errors.{IsOfMaking};
-ghost use Rattle.rx_table.specs.Table.{reference, shared, table};
-ghost use Rattle.rx_table.specs.Inner.Faults.{IsRefusal};
-ghost use Rattle.rx_table.specs.Inner.Walk.{AreThere, Begun, trees_of};
-ghost use Rattle.rx_table.specs.Inner.Made.{HasAll, Made, entries_of, some_written};
+ghost use Rattle.rx_table.specs.Table.{is_shared, table};
+ghost use Rattle.rx_table.specs.Inner.Elements.{CanPrint, counted, element_of, elements_of};
+ghost use Rattle.rx_table.specs.Inner.Elements.{list_text};
+ghost use Rattle.rx_table.specs.Inner.Walk.{HasParts, trees_of};
 
-use crate::copy::own_bank;
-use crate::faults::TableFault;
-use crate::made::{Content, made_of, make_list, make_part};
 use crate::shared::shared_parts;
-use crate::walk::different_parts;
-use indexmap::{IndexMap, IndexSet};
-use rx_term::{BankFault, Term, TermBank};
-use rx_text::{Output, WriteFault, write_to};
-use std::alloc::Global;
+use crate::walk::{Parts, find_parts};
+use rx_term::{Term, TermBank};
+use rx_text::{Numbers, Output, Printer, WriteFault};
+use std::alloc::{AllocError, Global};
 use std::io::Write;
 
-/// The largest number of shared parts: their numbers are integers of terms.
-const MOST: usize = 2_147_483_648;
-
-/// Makes the number of an element in a placeholder.
-fn number<C: TermBank>(element: usize, to: &mut C) -> Result<Term, BankFault>
-    requires { element < 2 ^ 31 }
-    ensures made { IfOk result (λ r. tree_at (C.store to.new) r ≡ Some (reference element)) }
-    ensures refused { IfErr result (IsBankRefusal (C.store to.new)) }
-    ensures grows { Grows (C.store to.old) (C.store to.new) }
-{
-    let integer = to.int(element as i32)?;
-    to.hole(integer)
+/// The numbers of the elements of the table of a tree, which are printed in place of its parts.
+#[derive(Clone, Copy)]
+pub(crate) struct Elements<'a> {
+    /// The parts of the tree.
+    parts: &'a Parts,
+    /// For each part the number of its element, if it has one.
+    numbers: &'a [Option<u32>],
 }
 
-/// Adds the element of a part if it is shared, and returns how the part is written.
-fn add_entry<C: TermBank>(
-    part: u32,
-    entry: Term,
-    shared: &IndexSet<u32>,
-    entries: &mut Vec<Term>,
-    to: &mut C,
-) -> Result<Term, TableFault>
-    requires entry { IsSome (tree_at (C.store to.old) entry) }
-    requires few { length shared.now.keys ≤ 2 ^ 31 }
-    ensures written { IfOk result (λ r. tree_at (C.store to.new) r
-        ≡ cond (list_any (nat_eq part) shared.now.keys)
-        (Some (reference (position_or_len (nat_eq part) shared.now.keys)))
-        (tree_at (C.store to.old) entry)) }
-    ensures added { OnOk result (entries.new.items ≡ entries.old.items
-        ++ cond (list_any (nat_eq part) shared.now.keys) (entry ∷ []) []) }
-    ensures refused { IfErr result (IsRefusal (C.store to.new)) }
-    ensures grows { Grows (C.store to.old) (C.store to.new) }
-{
-    match shared.get_index_of(&part) {
-        Some(index) => {
-            entries.push(entry)?;
-            Ok(number(index, to)?)
+impl Numbers for Elements<'_> {
+    ghost use Rattle.rx_table.specs.Inner.Elements.{AreIn, style_of};
+
+    ghost style = { style_of };
+
+    ghost are_for = { AreIn };
+
+    fn are_some(&self) -> bool {
+        true
+    }
+
+    fn number_of(&self, t: Term) -> Option<u32> {
+        match self.parts.terms.get_index_of(&t.0) {
+            Some(index) => match self.numbers.get(index) {
+                Some(number) => *number,
+                None => None,
+            },
+            None => None,
         }
-        None => Ok(entry),
     }
 }
 
-/// Makes the elements of those of the trees `parts` that are in `shared`. Each of `parts` comes
-/// after those inside of it. `made` is empty; afterwards it has how each of them is written.
-fn make_entries<B: TermBank, C: TermBank>(
-    from: &B,
-    parts: &[u32],
-    shared: &IndexSet<u32>,
-    made: &mut IndexMap<u32, Term>,
-    to: &mut C,
-) -> Result<Vec<Term>, TableFault>
-    requires parts { AreThere (B.store from.now) parts.now }
-    requires order { Begun (trees_of (B.store from.now) parts.now) }
-    requires shared { AreThere (B.store from.now) shared.now.keys }
-    requires few { length shared.now.keys ≤ 2 ^ 31 }
-    requires empty { IsEmpty made.old }
-    ensures entries { IfOk result (λ entries. HaveTrees (C.store to.new) entries.items
-        (entries_of (trees_of (B.store from.now) shared.now.keys)
-        (trees_of (B.store from.now) parts.now))) }
-    ensures made { OnOk result (Made (B.store from.now) (C.store to.new)
-        (some_written (trees_of (B.store from.now) shared.now.keys)) made.new) }
-    ensures has { OnOk result (HasAll (B.store from.now) made.new
-        (trees_of (B.store from.now) parts.now)) }
-    ensures refused { IfErr result (IsRefusal (C.store to.new)) }
-    ensures grows { Grows (C.store to.old) (C.store to.new) }
+/// Returns the next number, and counts it, if a part is shared.
+fn next_number(is_shared: bool, next: &mut u32) -> Option<u32>
+    requires { next.old < 2 ^ 31 }
+    ensures number { result ≡ cond is_shared (Some next.old) None }
+    ensures counted { next.new ≡ next.old + cond is_shared 1 0 }
 {
-    let mut entries = Vec::new(*made.allocator());
-    for part in parts {
-        let entry = make_part(from, Term(*part), Content::Listed, made, to)?;
-        let written = add_entry(*part, entry, shared, &mut entries, to)?;
-        made.insert(*part, written)?;
+    if !is_shared {
+        return None;
     }
-    Ok(entries)
+    let number = *next;
+    *next += 1;
+    Some(number)
 }
 
-/// Makes, in the store `to`, the table of a term of the store `from`. `Long` is returned if it has
-/// more than 2,147,483,648 shared parts, `Memory` if an allocation failed, and `Full` if the store
-/// is full. Only adds terms: at most three cells for each cell of the term, and two for each of its
-/// different subterms. Takes expected time in proportion to the cells of the term, where lists that
-/// have a tail in common count each by itself.
-pub fn make_table<B: TermBank, C: TermBank>(
-    alloc: Global,
-    from: &B,
-    t: Term,
-    to: &mut C,
-) -> Result<Term, TableFault>
-    requires { IsSome (tree_at (B.store from.now) t) }
-    ensures table { IfOk result (λ r. tree_at (C.store to.new) r
-        ≡ Some (table (held_tree (B.store from.now) t))) }
-    ensures long { IsErrOf result TableFault.Long
-        → 2 ^ 31 < length (shared (held_tree (B.store from.now) t)) }
-    ensures full { IsErrOf result TableFault.Full → cells (C.store to.new) ≡ (C.store to.new).cap }
-    ensures making { IfErr result IsOfMaking }
-    ensures grows { Grows (C.store to.old) (C.store to.new) }
+/// Returns for each `true` the number of those before it.
+fn count_shared(alloc: Global, shared: &[bool]) -> Result<Vec<Option<u32>>, AllocError>
+    requires { length shared.now ≤ 2 ^ 31 }
+    ensures { IfOk result (λ numbers. numbers.items ≡ counted 0 shared.now) }
 {
-    let parts = different_parts(alloc, from, t)?;
-    let shared = shared_parts(alloc, from, parts.as_slice())?;
-    if shared.len() > MOST {
-        return Err(TableFault::Long);
+    let mut numbers = Vec::new(alloc);
+    let mut next = 0;
+    for is_shared in shared {
+        numbers.push(next_number(*is_shared, &mut next))?;
     }
-    let mut made = IndexMap::new(alloc);
-    let mut elements = make_entries(from, parts.as_slice(), &shared, &mut made, to)?;
-    elements.push(made_of(&made, t))?;
-    Ok(make_list(&mut elements, to)?)
+    Ok(numbers)
 }
 
-/// Makes the table of a term in the empty store `own`, and prints it.
-fn write_table_from<B: TermBank, C: TermBank, W: Write>(
+/// Returns the numbers of the elements of the parts of a tree.
+fn find_numbers<B: TermBank>(
     alloc: Global,
     bank: &B,
-    t: Term,
-    own: &mut C,
+    parts: &Parts,
+) -> Result<Vec<Option<u32>>, AllocError>
+    requires { (t : Tree) × HasParts (B.store bank.now) t parts.now }
+    ensures { IfOk result (λ numbers. numbers.items
+        ≡ counted 0 (map (is_shared (trees_of (B.store bank.now) parts.now.terms.keys))
+        (trees_of (B.store bank.now) parts.now.terms.keys))) }
+{
+    let shared = shared_parts(alloc, bank, parts)?;
+    count_shared(alloc, &shared)
+}
+
+/// Prints the element of the part with this index and a comma, if it has a number.
+fn write_element<B: TermBank, W: Write>(
+    alloc: Global,
+    printer: &Printer<'_, B, Elements<'_>>,
+    index: usize,
     out: &mut Output<'_, W>,
 ) -> Result<(), WriteFault>
-    requires held { IsSome (tree_at (B.store bank.now) t) }
-    ensures written { OnOk result (IfSome (tree_at (B.store bank.now) t)
-        (λ u. Writes W.contents out.old out.new (canon (table u)))) }
-    ensures front { OnErr result (IfSome (tree_at (B.store bank.now) t)
-        (λ u. WritesFront W.contents out.old out.new (canon (table u)))) }
+    requires can { CanPrint B.store printer.now }
+    requires index { index < length printer.now.numbers.numbers.now }
+    ensures written { OnOk result
+        (Writes W.contents out.old out.new (element_of B.store printer.now index)) }
+    ensures front { OnErr result
+        (WritesFront W.contents out.old out.new (element_of B.store printer.now index)) }
     ensures reports { ReportsFault out.old out.new result }
 {
-    match make_table(alloc, bank, t, own) {
-        Ok(table) => write_to(alloc, own, table, out),
-        Err(_) => Err(WriteFault::Memory),
+    let Elements { parts, numbers } = printer.numbers;
+    if numbers[index].is_none() {
+        return Ok(());
     }
+    let part = Term(parts.terms.as_slice()[index]);
+    printer.write_entry(alloc, part, out)?;
+    Ok(out.put(b",")?)
+}
+
+/// Prints the elements of the parts that have a number, each with a comma after it.
+fn write_elements<B: TermBank, W: Write>(
+    alloc: Global,
+    printer: &Printer<'_, B, Elements<'_>>,
+    out: &mut Output<'_, W>,
+) -> Result<(), WriteFault>
+    requires can { CanPrint B.store printer.now }
+    ensures written { OnOk result (Writes W.contents out.old out.new
+        (elements_of B.store printer.now)) }
+    ensures front { OnErr result (WritesFront W.contents out.old out.new
+        (elements_of B.store printer.now)) }
+    ensures reports { ReportsFault out.old out.new result }
+{
+    for index in 0..printer.numbers.numbers.len() {
+        write_element(alloc, printer, index, out)?;
+    }
+    Ok(())
+}
+
+/// Prints the elements of parts, and then a term, as a list.
+fn write_list<B: TermBank, W: Write>(
+    alloc: Global,
+    printer: &Printer<'_, B, Elements<'_>>,
+    t: Term,
+    out: &mut Output<'_, W>,
+) -> Result<(), WriteFault>
+    requires can { CanPrint B.store printer.now }
+    requires held { IsSome (tree_at (B.store printer.now.bank.now) t) }
+    ensures written { OnOk result (Writes W.contents out.old out.new
+        (list_text B.store printer.now (held_tree (B.store printer.now.bank.now) t))) }
+    ensures front { OnErr result (WritesFront W.contents out.old out.new
+        (list_text B.store printer.now (held_tree (B.store printer.now.bank.now) t))) }
+    ensures reports { ReportsFault out.old out.new result }
+{
+    out.put(b"[")?;
+    write_elements(alloc, printer, out)?;
+    printer.write_term(alloc, t, out)?;
+    Ok(out.put(b"]")?)
 }
 
 /// Prints the table of a term. After a failure the writer is not called again. `Memory` is returned
-/// if an allocation failed, or if the table does not fit in a store of 2^30 cells, in which it is
-/// made. Takes expected time in proportion to the cells of the term and to the printed form.
+/// if an allocation failed, or if the term has more than 2,147,483,648 different subterms. Takes
+/// expected time in proportion to the cells of the term, where lists that have a tail in common
+/// count each by itself, and to the printed form.
 pub fn write_table_to<B: TermBank, W: Write>(
     alloc: Global,
     bank: &B,
@@ -169,8 +173,18 @@ pub fn write_table_to<B: TermBank, W: Write>(
         (λ u. WritesFront W.contents out.old out.new (canon (table u)))) }
     ensures reports { ReportsFault out.old out.new result }
 {
-    match own_bank(alloc) {
-        Ok(mut own) => write_table_from(alloc, bank, t, &mut own, out),
-        Err(_) => Err(WriteFault::Memory),
-    }
+    let Ok(parts) = find_parts(alloc, bank, t) else {
+        return Err(WriteFault::Memory);
+    };
+    let Ok(numbers) = find_numbers(alloc, bank, &parts) else {
+        return Err(WriteFault::Memory);
+    };
+    let printer = Printer {
+        bank,
+        numbers: Elements {
+            parts: &parts,
+            numbers: &numbers,
+        },
+    };
+    write_list(alloc, &printer, t, out)
 }

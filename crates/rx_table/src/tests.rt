@@ -1,6 +1,6 @@
 //! Tables of texts.
 
-use crate::{TableFault, copy_term, count_cells, make_table, open_table, write_table_to};
+use crate::{TableFault, copy_term, count_cells, read_table, write_table_to};
 use rx_shared::SharedBank;
 use rx_term::{Term, TermBank};
 use rx_text::{Output, read, write};
@@ -47,12 +47,12 @@ fn expect_text<B: TermBank>(rt: &impl Abort, alloc: Global, bank: &B, t: Term, w
 
 /// Aborts the test unless the table of a text has this text.
 fn expect_table(rt: &impl Abort, alloc: Global, text: &[u8], wanted: &[u8]) {
-    let mut bank = empty_bank(rt, alloc);
+    let mut bank = other_bank(rt, alloc);
     let t = read(alloc, text, &mut bank).expect(rt, "a term");
     assert!(rt; bank.holds(t));
-    let mut other = other_bank(rt, alloc);
-    let table = make_table(alloc, &bank, t, &mut other).expect(rt, "a table");
-    expect_text(rt, alloc, &other, table, wanted);
+    let mut found = Vec::new(alloc);
+    assert!(rt; write_table_to(alloc, &bank, t, &mut Output::new(&mut found)).is_ok());
+    assert!(rt; found.as_slice() == wanted);
 }
 
 #[test]
@@ -87,12 +87,21 @@ fn a_balanced_tree(rt: HostRuntime) {
 }
 
 /// Texts of tables, and of their terms. Elements need not be used, and an element can be a number.
-const OPENED: [(&str, &str); 14] = [
+const OPENED: [(&str, &str); 20] = [
     ("[a]", "a"),
     ("[a,b]", "b"),
     ("[f(x),g(<0>,<0>)]", "g(f(x),f(x))"),
     ("[f(x),g(<0>){b}]", "g(f(x)){b}"),
     ("[a,<0>]", "a"),
+    ("[a{b},<0>{}]", "a{b}"),
+    ("[a{b},<0{}>{}]", "a{b}"),
+    ("[a,f(<[<0>]{}>,<[7]>{<0>})]{}", "f(<a>,<7>{a})"),
+    ("[[a,b],<[[<0>]]>]", "<[[a,b]]>"),
+    (" [ f ( x ) , g ( < 0 > , < 0 > ) ] ", "g(f(x),f(x))"),
+    (
+        "[f(1,2),[3,f(<0>),<[<[<0>]>]>]]",
+        "[3,f(f(1,2)),<<f(1,2)>>]",
+    ),
     ("[<[int]>]", "<int>"),
     ("[<[5]>,f(<0>,5)]", "f(<5>,5)"),
     ("[<[<[3]>]>]", "<<3>>"),
@@ -111,11 +120,13 @@ const OPENED: [(&str, &str); 14] = [
 ];
 
 /// Texts that are no tables.
-const NO_TABLES: [&str; 7] = ["a", "3", "<0>", "[]", "[]{b}", "[a]{b}", "f([a])"];
+const NO_TABLES: [&str; 9] = [
+    "a", "3", "<0>", "[]", "[]{b}", "[a]{b}", "f([a])", "<[a]>", "[<0>]{b}",
+];
 
 /// Texts of tables with a placeholder of another form, and the number of the first element that
 /// has one.
-const BROKEN: [(&str, usize); 18] = [
+const BROKEN: [(&str, usize); 27] = [
     ("[<0>]", 0),
     ("[a,<1>]", 1),
     ("[a,<2>,b]", 1),
@@ -134,16 +145,31 @@ const BROKEN: [(&str, usize); 18] = [
     ("[a,b{<foo>}]", 1),
     ("[a,<[b]>{<7>}]", 1),
     ("[f(<0>),<9>,b]", 0),
+    ("[a,b,<0>{c}]", 2),
+    ("[a,b,[c,<2>]]", 2),
+    ("[a,b,[c,d,<3>],<2>]", 2),
+    ("[a,f(b,g(c,<2>),<1>)]", 1),
+    ("[[a,<0>],b]", 0),
+    ("[a,b{<1>}]", 1),
+    ("[a,<[b]>{<1>}]", 1),
+    ("[a,<<[b]>>]", 1),
+    ("[a,<f(<0>)>]", 1),
+];
+
+/// Texts with a syntax error, and its offset.
+const OUTSIDE: [(&str, u32); 5] = [
+    ("", 0),
+    ("[a,<0]", 5),
+    ("[a,<0>", 6),
+    ("[a] b", 4),
+    ("[<0>]]", 5),
 ];
 
 /// Aborts the test unless a text is read as a table of the term with the text `wanted`.
 fn expect_term(rt: &impl Abort, alloc: Global, text: &[u8], wanted: &[u8]) {
-    let mut bank = empty_bank(rt, alloc);
-    let table = read(alloc, text, &mut bank).expect(rt, "a term");
-    assert!(rt; bank.holds(table));
-    let mut other = other_bank(rt, alloc);
-    let t = open_table(alloc, &bank, table, &mut other).expect(rt, "a table");
-    expect_text(rt, alloc, &other, t, wanted);
+    let mut bank = other_bank(rt, alloc);
+    let t = read_table(alloc, text, &mut bank).expect(rt, "a table");
+    expect_text(rt, alloc, &bank, t, wanted);
 }
 
 #[test]
@@ -160,10 +186,7 @@ fn terms_of_tables(rt: HostRuntime) {
 /// Aborts the test unless reading a text as a table fails with this error.
 fn expect_fault(rt: &impl Abort, alloc: Global, text: &[u8], wanted: TableFault) {
     let mut bank = empty_bank(rt, alloc);
-    let table = read(alloc, text, &mut bank).expect(rt, "a term");
-    assert!(rt; bank.holds(table));
-    let mut other = empty_bank(rt, alloc);
-    assert!(rt; open_table(alloc, &bank, table, &mut other) == Err(wanted));
+    assert!(rt; read_table(alloc, text, &mut bank) == Err(wanted));
 }
 
 #[test]
@@ -179,6 +202,9 @@ fn broken_tables(rt: HostRuntime) {
             text.as_bytes(),
             TableFault::Element { number: *number },
         );
+    }
+    for (text, at) in &OUTSIDE {
+        expect_fault(&rt, alloc, text.as_bytes(), TableFault::Grammar { at: *at });
     }
 }
 
@@ -203,44 +229,14 @@ fn a_huge_tree(rt: HostRuntime) {
     let alloc = rt.alloc();
     let mut bank = empty_bank(&rt, alloc);
     let text = doubling_table(&rt, alloc, b"leaf", 1000);
-    let table = read(alloc, &text, &mut bank).expect(&rt, "a term");
-    assert!(rt; bank.holds(table));
-    let mut other = empty_bank(&rt, alloc);
-    let t = open_table(alloc, &bank, table, &mut other).expect(&rt, "a table");
-    assert!(rt; other.holds(t));
-    assert!(rt; count_cells(alloc, &other, t) == Ok(3002));
+    let t = read_table(alloc, &text, &mut bank).expect(&rt, "a table");
+    assert!(rt; bank.holds(t));
+    assert!(rt; bank.cells() == 3002);
+    assert!(rt; count_cells(alloc, &bank, t) == Ok(3002));
     let mut found = Vec::new(alloc);
-    assert!(rt; write_table_to(alloc, &other, t, &mut Output::new(&mut found)).is_ok());
+    assert!(rt; write_table_to(alloc, &bank, t, &mut Output::new(&mut found)).is_ok());
     let wanted = doubling_table(&rt, alloc, b"node(leaf,leaf)", 999);
     assert!(rt; found.as_slice() == wanted.as_slice());
-}
-
-/// Making the table of a term in another store leaves the term and its store as they were.
-#[test]
-fn a_table_in_another_store(rt: HostRuntime) {
-    let alloc = rt.alloc();
-    let mut bank = empty_bank(&rt, alloc);
-    let t = read(alloc, b"g(f(pair(1,2)),f(pair(1,2)))", &mut bank).expect(&rt, "a term");
-    assert!(rt; bank.holds(t));
-    let before = bank.cells();
-    let mut other = other_bank(&rt, alloc);
-    let table = make_table(alloc, &bank, t, &mut other).expect(&rt, "a table");
-    expect_text(&rt, alloc, &other, table, b"[f(pair(1,2)),g(<0>,<0>)]");
-    assert!(rt; bank.cells() == before);
-    expect_text(&rt, alloc, &bank, t, b"g(f(pair(1,2)),f(pair(1,2)))");
-}
-
-#[test]
-fn printed_tables(rt: HostRuntime) {
-    let alloc = rt.alloc();
-    for (text, wanted) in &TABLES {
-        let mut bank = empty_bank(&rt, alloc);
-        let t = read(alloc, text.as_bytes(), &mut bank).expect(&rt, "a term");
-        assert!(rt; bank.holds(t));
-        let mut found = Vec::new(alloc);
-        assert!(rt; write_table_to(alloc, &bank, t, &mut Output::new(&mut found)).is_ok());
-        assert!(rt; found.as_slice() == wanted.as_bytes());
-    }
 }
 
 /// Copies have the text of the term, without cells of other terms.
@@ -285,10 +281,10 @@ fn cells_of_terms(rt: HostRuntime) {
 #[test]
 fn a_full_store(rt: HostRuntime) {
     let alloc = rt.alloc();
-    let mut bank = empty_bank(&rt, alloc);
-    let table = read(alloc, b"[leaf,node(<0>,<0>)]", &mut bank).expect(&rt, "a term");
-    assert!(rt; bank.holds(table));
-    let mut other = SharedBank::new(alloc, 4).expect(&rt, "a store");
-    assert!(rt; open_table(alloc, &bank, table, &mut other) == Err(TableFault::Full));
-    assert!(rt; other.cells() == 4);
+    let text = b"[leaf,node(<0>,<0>)]";
+    let mut bank = SharedBank::new(alloc, 5).expect(&rt, "a store");
+    assert!(rt; read_table(alloc, text, &mut bank).is_ok());
+    let mut bank = SharedBank::new(alloc, 4).expect(&rt, "a store");
+    assert!(rt; read_table(alloc, text, &mut bank) == Err(TableFault::Full));
+    assert!(rt; bank.cells() == 4);
 }

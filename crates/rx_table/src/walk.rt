@@ -1,33 +1,42 @@
 //! The different subterms of a tree, in the order of a walk.
 
-ghost use Rattle.std.specs.Prelude.{◌≡◌, ◌++◌, [], List, IfOk, IsSome, OnOk};
+ghost use Rattle.std.specs.Prelude.{◌≡◌, ◌<◌, ◌≤◌, IfOk, IsSome, OnOk, length};
 ghost use Rattle.rx_term.specs.Tree.{Tree, annotations, items_of, to_list};
-ghost use Rattle.rx_term.specs.Store.{tree_at};
+ghost use Rattle.rx_term.specs.Store.{Store, tree_at};
 ghost use Rattle.rx_term.specs.Walks.{HaveTrees, held_tree};
-ghost use Rattle.rx_table.specs.Table.{different, direct, subterms};
-ghost use Rattle.rx_table.specs.Inner.Walk.{AreThere, Begun, CanVisit, Enters, IsList, Pushes};
-ghost use Rattle.rx_table.specs.Inner.Walk.{body_items};
-ghost use Rattle.rx_table.specs.Inner.Walk.{Walked, trees_of};
+ghost use Rattle.rx_table.specs.Table.{direct};
+ghost use Rattle.rx_table.specs.Inner.Walk.{AreBelow, Enters, HasParts, IsList, Leaves, Pushes};
+ghost use Rattle.rx_table.specs.Inner.Walk.{body_items, part_tree, trees_at};
 
 use indexmap::IndexSet;
 use rx_term::{Kind, Term, TermBank};
 use std::alloc::{AllocError, Global};
+
+/// The largest number of parts: their indices are integers of terms.
+const MOST: usize = 2_147_483_648;
 
 /// The next visit of a walk.
 #[derive(Clone, Copy, Drop)]
 pub(crate) enum Visit {
     /// Enters a tree.
     Enter(Term),
-    /// Leaves a tree, after all trees inside of it.
-    Leave(Term),
+    /// Leaves a tree. The finished trees from this place on are those one step inside of it.
+    Leave(Term, usize),
+}
+
+/// The parts of a tree: its different subterms, each after those inside of it, from left to right.
+#[derive(Drop)]
+pub(crate) struct Parts {
+    /// Their references.
+    pub(crate) terms: IndexSet<u32>,
+    /// The indices of the trees one step inside of the first part, of the second part, and so on.
+    pub(crate) inside: Vec<u32>,
+    /// Where those of each part begin in `inside`, and where the last of them end.
+    bounds: Vec<usize>,
 }
 
 /// Pushes the items of a list.
-pub(crate) fn push_items<B: TermBank>(
-    bank: &B,
-    list: Term,
-    items: &mut Vec<Term>,
-) -> Result<(), AllocError>
+fn push_items<B: TermBank>(bank: &B, list: Term, items: &mut Vec<Term>) -> Result<(), AllocError>
     requires { IsList (B.store bank.now) list }
     ensures { OnOk result (Pushes (B.store bank.now) items.old.items items.new.items
         (to_list (items_of (held_tree (B.store bank.now) list)))) }
@@ -70,7 +79,7 @@ fn push_anns<B: TermBank>(bank: &B, t: Term, inside: &mut Vec<Term>) -> Result<(
 }
 
 /// Returns the references of the trees one step inside of a tree.
-pub(crate) fn direct<B: TermBank>(alloc: Global, bank: &B, t: Term) -> Result<Vec<Term>, AllocError>
+fn direct<B: TermBank>(alloc: Global, bank: &B, t: Term) -> Result<Vec<Term>, AllocError>
     requires { IsSome (tree_at (B.store bank.now) t) }
     ensures { IfOk result (λ inside. HaveTrees (B.store bank.now) inside.items
         (direct (held_tree (B.store bank.now) t))) }
@@ -81,86 +90,87 @@ pub(crate) fn direct<B: TermBank>(alloc: Global, bank: &B, t: Term) -> Result<Ve
     Ok(inside)
 }
 
-/// Enters a tree, unless it is in `left`: the trees inside of it are visited next, from left to
-/// right, and then the tree is left.
+/// Enters a tree when there are `start` finished trees: the trees inside of it are visited next, from
+/// left to right, and then the tree is left.
 fn enter<B: TermBank>(
     bank: &B,
     t: Term,
-    left: &IndexSet<u32>,
+    start: usize,
     visits: &mut Vec<Visit>,
 ) -> Result<(), AllocError>
     requires { IsSome (tree_at (B.store bank.now) t) }
     ensures { OnOk result
-        (Enters (B.store bank.now) t left.now.keys visits.old.items visits.new.items) }
+        (Enters (B.store bank.now) t start visits.old.items visits.new.items) }
 {
-    if left.contains(&t.0) {
-        return Ok(());
-    }
     let mut inside = direct(*visits.allocator(), bank, t)?;
-    visits.push(Visit::Leave(t))?;
+    visits.push(Visit::Leave(t, start))?;
     while let Some(next) = inside.pop() {
         visits.push(Visit::Enter(next))?;
     }
     Ok(())
 }
 
-/// Makes the visits and all that follow from them. Afterwards `left` has the trees that they leave.
-fn leave_all<B: TermBank>(
-    bank: &B,
-    visits: &mut Vec<Visit>,
-    left: &mut IndexSet<u32>,
+/// Leaves a tree: it is the next part, if it is not one already, and a finished tree in place of
+/// those one step inside of it, which are the finished trees from `start` on.
+fn leave(
+    t: Term,
+    start: usize,
+    parts: &mut Parts,
+    finished: &mut Vec<u32>,
 ) -> Result<(), AllocError>
-    requires can { CanVisit (B.store bank.now) visits.old.items }
-    requires there { AreThere (B.store bank.now) left.old.keys }
-    ensures there { OnOk result (AreThere (B.store bank.now) left.new.keys) }
-    ensures walked { OnOk result ((all : List Tree) → Begun all
-        → Walked (B.store bank.now) all left.old.keys visits.old.items
-        → Walked (B.store bank.now) all left.new.keys []) }
+    requires { start ≤ length finished.old.items }
+    ensures { OnOk result
+        (Leaves t start parts.old finished.old.items parts.new finished.new.items) }
 {
-    while let Some(visit) = visits.pop() {
-        match visit {
-            Visit::Leave(t) => {
-                left.insert(t.0)?;
-            }
-            Visit::Enter(t) => enter(bank, t, left, visits)?,
-        }
+    let (index, is_new) = parts.terms.insert_full(t.0)?;
+    if index >= MOST {
+        return Err(AllocError);
     }
+    if is_new {
+        parts.inside.extend_from_slice(&finished[start..])?;
+        parts.bounds.push(parts.inside.len())?;
+    }
+    finished.truncate(start);
+    finished.push(index as u32)?;
     Ok(())
 }
 
-/// Adds the different subterms of a tree that are not in `left`, each after those inside of it, from
-/// left to right. Takes expected time in proportion to the cells of the tree that were not visited
-/// before.
-pub(crate) fn collect<B: TermBank>(
-    bank: &B,
-    t: Term,
-    left: &mut IndexSet<u32>,
-) -> Result<(), AllocError>
-    requires held { IsSome (tree_at (B.store bank.now) t) }
-    requires there { AreThere (B.store bank.now) left.old.keys }
-    ensures there { OnOk result (AreThere (B.store bank.now) left.new.keys) }
-    ensures trees { OnOk result ((before : List Tree) → Begun before
-        → trees_of (B.store bank.now) left.old.keys ≡ different before
-        → trees_of (B.store bank.now) left.new.keys
-        ≡ different (before ++ subterms (held_tree (B.store bank.now) t))) }
+/// Returns the parts of a tree. Looks a reference up once for each tree one step inside of a part,
+/// and takes expected time in proportion to the cells of the tree. Reports out of memory also if
+/// there are more than 2,147,483,648 parts.
+pub(crate) fn find_parts<B: TermBank>(alloc: Global, bank: &B, t: Term) -> Result<Parts, AllocError>
+    requires { IsSome (tree_at (B.store bank.now) t) }
+    ensures { IfOk result (HasParts (B.store bank.now) (held_tree (B.store bank.now) t)) }
 {
-    let mut visits = Vec::new(*left.allocator());
+    let mut parts = Parts {
+        terms: IndexSet::new(alloc),
+        inside: Vec::new(alloc),
+        bounds: Vec::new(alloc),
+    };
+    parts.bounds.push(0)?;
+    let mut finished = Vec::new(alloc);
+    let mut visits = Vec::new(alloc);
     visits.push(Visit::Enter(t))?;
-    leave_all(bank, &mut visits, left)
+    while let Some(visit) = visits.pop() {
+        match visit {
+            Visit::Enter(t) => match parts.terms.get_index_of(&t.0) {
+                Some(index) => finished.push(index as u32)?,
+                None => enter(bank, t, finished.len(), &mut visits)?,
+            },
+            Visit::Leave(t, start) => leave(t, start, &mut parts, &mut finished)?,
+        }
+    }
+    Ok(parts)
 }
 
-/// Returns the different subterms of a tree, each after those inside of it, from left to right.
-pub(crate) fn different_parts<B: TermBank>(
-    alloc: Global,
-    bank: &B,
-    t: Term,
-) -> Result<IndexSet<u32>, AllocError>
-    requires { IsSome (tree_at (B.store bank.now) t) }
-    ensures there { IfOk result (λ parts. AreThere (B.store bank.now) parts.keys) }
-    ensures trees { IfOk result (λ parts. trees_of (B.store bank.now) parts.keys
-        ≡ different (subterms (held_tree (B.store bank.now) t))) }
+/// Returns the indices of the trees one step inside of the part with this index.
+pub(crate) fn inside_of(parts: &Parts, index: usize) -> &[u32]
+    requires index { index < length parts.now.terms.keys }
+    requires parts { (w : Store) × ((t : Tree) × HasParts w t parts.now) }
+    ensures below { AreBelow index result.now }
+    ensures trees { (w : Store) (t : Tree) → HasParts w t parts.now
+        → trees_at w parts.now.terms.keys result.now
+        ≡ direct (part_tree w parts.now.terms.keys index) }
 {
-    let mut parts = IndexSet::new(alloc);
-    collect(bank, t, &mut parts)?;
-    Ok(parts)
+    &parts.inside[parts.bounds[index]..parts.bounds[index + 1]]
 }

@@ -1,5 +1,5 @@
 -- What writes one after another do to known bytes.
-use Rattle.std.proofs.Common.{◌≡◌, ℕ, ◌+◌, ◌-◌, ◌≤◌, arith, List, [], ◌++◌, Option, Some, None, Result, Ok, Err, OnErr}
+use Rattle.std.proofs.Common.{◌≡◌, ℕ, ◌+◌, ◌-◌, ◌≤◌, arith, List, [], ◌++◌, Option, Some, None, Result, Ok, Err, OnErr, OnOk}
 use Rattle.std.proofs.Common.{length, take, drop, sym, ap, ◌∙◌, append_assoc, append-nil, take-add, take-append-drop}
 use Rattle.std.proofs.lemmas.List.{take_rest}
 use Rattle.std.specs.Io.KnownBytes.{Appends, Keeps}
@@ -79,6 +79,12 @@ pub err_within : {X E : Type 0} (r : Result X E) (old between new : Option (List
     → Appends old between xs → OnErr r (AppendsFront ys between new) → OnErr r (AppendsFront whole old new)
 err_within (Ok x) old between new whole xs ys zs e a h = tt
 err_within (Err x) old between new whole xs ys zs e a h = front_within old between new whole xs ys zs e a h
+
+-- the last piece of a text was written after the others
+pub ok_after : {X E : Type 0} (r : Result X E) (old between new : Option (List ℕ)) (whole xs ys : List ℕ) → whole ≡ xs ++ ys
+    → Appends old between xs → OnOk r (Appends between new ys) → OnOk r (Appends old new whole)
+ok_after (Ok x) old between new whole xs ys e a h = rw e (appends_both old between new xs ys a h)
+ok_after (Err x) old between new whole xs ys e a h = tt
 
 pub appends_same : (old : Option (List ℕ)) → Appends old old []
 appends_same None = tt

@@ -129,5 +129,9 @@ is_read bytes s ps at d frames ns decides cut e state =
     let one : length made ≡ 1 = sym count ∙ ap (λ fs. total fs + 1) closed in
     let read_is : read (kinds bytes) ≡ Some t
     = sym decides.tree ∙ ap (λ qs. tree_of (run (map (λ t. t.1) qs) s.0 s.1)) cut
-    ∙ ap (λ o. tree_of (next_state None (λ n gs. run [] n gs) o)) (e ∙ ap (λ (x : State). Some x) ended.1) in
-    (t, read_spelled (kinds bytes) t read_is, record { alone = one_left made t one due_is.1; enough = state.stack.enough; names = state.stack.names })
+    ∙ ap (λ o. tree_of (next_state None (λ n gs. run [] n gs) o)) (e ∙ ap (λ (x : State). Some x) ended.1) in (
+      t,
+      read_spelled (kinds bytes) t read_is,
+      record { alone = one_left made t one due_is.1; enough = state.stack.enough; names = state.stack.names },
+      state.stack.proper,
+    )

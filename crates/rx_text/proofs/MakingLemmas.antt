@@ -19,7 +19,7 @@ use Rattle.rx_text.specs.Answer.{AreNodesOf}
 use Rattle.rx_text.specs.declared.nodes.Node.{Node}
 use Rattle.rx_text.specs.declared.nodes.Node.TheVariants as node
 use Rattle.rx_text.specs.Held.{Holds}
-use Rattle.rx_text.proofs.SteppingLemmas.{in_word}
+use Rattle.rx_text.proofs.SteppingLemmas.{in_word, rest-drop}
 
 -- ---- trees of references
 
@@ -53,15 +53,6 @@ have_as_many w [] (t ∷ ts) h = absurd h
 have_as_many w (r ∷ rs) [] h = absurd h
 
 -- ---- the newest trees
-
-pub rest-drop : (k : ℕ) (ts : List Tree) → rest (drop k ts) ≡ drop (k + 1) ts
-rest-drop k ts = rw add-one (go k ts)
-  where
-    go : (k : ℕ) (ts : List Tree) → rest (drop k ts) ≡ drop (suc k) ts
-    go zero [] = refl
-    go zero (t ∷ ts) = refl
-    go (suc k) [] = refl
-    go (suc k) (t ∷ ts) = go k ts
 
 onto-newest : (k : ℕ) (ts : List Tree) (others : Trees) → k < length ts → onto (taken (suc k) ts) others ≡ more (top (drop k ts)) (onto (taken k ts) others)
 onto-newest k [] others h = absurd (omega arith)
@@ -100,7 +91,7 @@ count-taken zero ts h = refl
 count-taken (suc k) [] h = absurd (omega arith)
 count-taken (suc k) (t ∷ ts) h = omega (arith, count-taken k ts (omega arith))
 
-count-newest : (k : ℕ) (ts : List Tree) → k ≤ length ts → count_of (newest k ts) ≡ k
+pub count-newest : (k : ℕ) (ts : List Tree) → k ≤ length ts → count_of (newest k ts) ≡ k
 count-newest k ts h = omega (arith, count-onto (taken k ts) none, count-taken k ts h)
 
 -- a tree that is made is held, with those that were

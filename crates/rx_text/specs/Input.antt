@@ -1,5 +1,5 @@
 -- A reader that is not used again after it has failed.
-use Rattle.std.specs.Prelude.{◌≡◌, ◌||◌, ℕ, true, false, List, Option, Result, MatchResult, is_err}
+use Rattle.std.specs.Prelude.{◌≡◌, ◌||◌, ℕ, true, false, List, Option, Result, is_err}
 use Rattle.rx_text.specs.declared.input.Input.{Input}
 
 module _ {R : Type 0} where
@@ -23,7 +23,3 @@ module _ {R : Type 0} where
   -- or an error is returned
   abbrev pub ReportsRefusedRead : {T E : Type 0} → Input R → Input R → Result T E → Type 0
   ReportsRefusedRead old new r = IsSameInput old new × (new.refused ≡ (is_err r || old.refused))
-
-  -- To be removed: ReportsRefusedRead includes TellsRefusedRead.
-  abbrev pub TellsRefusedRead : {T E : Type 0} → Input R → Result T E → Type 0
-  TellsRefusedRead new r = MatchResult r (λ _. IsReadable new) (λ _. HasRefusedRead new)

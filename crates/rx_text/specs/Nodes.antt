@@ -1,5 +1,6 @@
 -- A tree as a list of nodes, each after those of its parts.
-use Rattle.std.specs.Prelude.{ℕ, zero, suc, ◌+◌, ◌≤◌, Bool, List, [], ◌∷◌, drop, length, ℤ}
+use Rattle.std.specs.Prelude.{◌≡◌, ℕ, zero, suc, ◌+◌, ◌<◌, ◌≤◌, Bool, List, [], ◌∷◌, drop, length}
+use Rattle.std.specs.Prelude.{ℤ}
 use Rattle.rx_term.specs.Tree.{Tree, Trees, none, more, Int, Appl, Items, Hole, annotated}
 use Rattle.rx_text.specs.Machine.{onto}
 
@@ -58,3 +59,13 @@ trees_of made (n ∷ ns) = trees_of (assembled n made) ns
 abbrev pub Enough : List Tree → List Node → Type 0
 Enough made [] = Unit {0}
 Enough made (n ∷ ns) = (needed n ≤ length made) × Enough (assembled n made) ns
+
+-- IsProper n made: a node of annotations has some, and its tree has none yet
+abbrev pub IsProper : Node → List Tree → Type 0
+IsProper (Annotating k) made = (0 < k) × (annotated (top (drop k made)) none ≡ top (drop k made))
+IsProper n made = Unit {0}
+
+-- AreProper made ns: all nodes of annotations are proper
+abbrev pub AreProper : List Tree → List Node → Type 0
+AreProper made [] = Unit {0}
+AreProper made (n ∷ ns) = IsProper n made × AreProper (assembled n made) ns

@@ -1,6 +1,6 @@
 -- A writer that is not used again after it has failed.
 use Rattle.std.specs.Prelude.{◌≡◌, ◌||◌, ℕ, Bool, true, false, List, Option, Result, Ok, Err}
-use Rattle.std.specs.Prelude.{MatchResult, is_err}
+use Rattle.std.specs.Prelude.{is_err}
 use Rattle.std.specs.Io.KnownBytes.{Appends}
 use Rattle.rx_text.specs.Written.{AppendsFront}
 use Rattle.rx_text.specs.declared.output.Output.{Output}
@@ -49,12 +49,3 @@ module _ {W : Type 0} where
   -- its error is returned; running out of memory leaves the writer as it was
   abbrev pub ReportsFault : {T : Type 0} → Output W → Output W → Result T WriteFault → Type 0
   ReportsFault old new r = IsSameOutput old new × (new.refused ≡ (is_refusal r || old.refused))
-
-  -- To be removed: ReportsRefusal includes TellsRefusal.
-  abbrev pub TellsRefusal : {T E : Type 0} → Output W → Result T E → Type 0
-  TellsRefusal new r = MatchResult r (λ _. IsWritable new) (λ _. HasRefusedWrite new)
-
-  -- To be removed: ReportsFault includes TellsFault.
-  abbrev pub TellsFault : {T : Type 0} → Output W → Result T WriteFault → Type 0
-  TellsFault new r =
-      MatchResult r (λ _. IsWritable new) (λ fault. fault ≡ Write → HasRefusedWrite new)

@@ -4,7 +4,7 @@ use Rattle.std.specs.Prelude.{None, Result, Ok, Err, IsTrue}
 use Rattle.std.specs.List.{AllByRecursion}
 use Rattle.rx_term.specs.Tree.{Tree, none, annotated, is_i32}
 use Rattle.rx_text.specs.Nodes as nodes
-use Rattle.rx_text.specs.Nodes.{taken, top, rest, trees_of, Enough}
+use Rattle.rx_text.specs.Nodes.{taken, top, rest, trees_of, Enough, AreProper}
 use Rattle.rx_text.specs.Machine as machine
 use Rattle.rx_text.specs.Machine.{State}
 use Rattle.rx_text.specs.Lexemes.{name_of, token_of, IsWord}
@@ -115,8 +115,20 @@ abbrev pub pending : Due → ℕ
 pending (Named w) = 1
 pending d = 0
 
--- IsBare d made: a body has no annotations
+-- IsUnannotated o k made: the tree that a group of annotations with `k` items annotates has none
+abbrev pub IsUnannotated : Opening → ℕ → List Tree → Type 0
+IsUnannotated opening.Annotations k made = annotated (top (drop k made)) none ≡ top (drop k made)
+IsUnannotated o k made = Unit {0}
+
+-- AreUnannotated fs made: this holds for all open groups, the innermost first
+abbrev pub AreUnannotated : List Frame → List Tree → Type 0
+AreUnannotated [] made = Unit {0}
+AreUnannotated (f ∷ fs) made = IsUnannotated f.opening f.count made
+    × AreUnannotated fs (under f.opening f.count made)
+
+-- IsBare d made: a body, or the tree of a new group of annotations, has no annotations
 abbrev pub IsBare : Due → List Tree → Type 0
+IsBare (First o) made = IsUnannotated o 0 made
 IsBare Body made = annotated (top made) none ≡ top made
 IsBare d made = Unit {0}
 
@@ -126,13 +138,15 @@ IsDue bytes (First o) = IsOpening bytes o
 IsDue bytes (Named w) = IsWord bytes w
 IsDue bytes d = Unit {0}
 
--- IsStack bytes k frames ns: every tree except `k` belongs to a frame, and all words are ranges of
--- names
+-- IsStack bytes k frames ns: every tree except `k` belongs to a frame, all words are ranges of
+-- names, and no tree is annotated twice
 pub record IsStack (bytes : List ℕ) (k : ℕ) (frames : List Frame) (ns : List Node) : Type 0 where
   pub enough : Enough [] (map (node_of bytes) ns)
   pub counted : total (reverse frames) + k ≡ length (made_of bytes ns)
   pub openings : AllByRecursion (λ f. IsOpening bytes f.opening) frames
   pub names : AllByRecursion (IsNode bytes) ns
+  pub proper : AreProper [] (map (node_of bytes) ns)
+  pub unannotated : AreUnannotated (reverse frames) (drop k (made_of bytes ns))
 
 -- IsState bytes d frames ns: the parser represents a state of the machine
 pub record IsState (bytes : List ℕ) (d : Due) (frames : List Frame) (ns : List Node) : Type 0 where

@@ -118,8 +118,9 @@ fn make_annotated<B: TermBank>(
     Ok(bank.annotated(term, anns)?)
 }
 
-/// Makes the tree of a node, whose parts are the last references.
-fn make<B: TermBank>(
+/// Makes the tree of a node of the text `bytes` in a store. Its parts are the last of the terms
+/// `made`, which are removed. Takes time in proportion to their number and the name of the node.
+pub fn make_node<B: TermBank>(
     bytes: &[u8],
     node: Node,
     made: &mut Vec<Term>,
@@ -158,7 +159,7 @@ pub fn build<B: TermBank>(
 {
     let mut made: Vec<Term> = Vec::new(alloc);
     for node in nodes {
-        let term = make(bytes, *node, &mut made, bank)?;
+        let term = make_node(bytes, *node, &mut made, bank)?;
         made.push(term)?;
     }
     Ok(made[0])

@@ -28,6 +28,6 @@ pub enum Node {
     List(u32),
     /// The placeholder of one tree.
     Placeholder,
-    /// Annotates the tree below this number of trees with them.
+    /// Annotates the tree below this number of trees with them. The number is not 0.
     Annotations(u32),
 }

@@ -5,7 +5,7 @@ ghost use Rattle.rx_text.specs.Lexemes.{token_of, IsToken};
 ghost use Rattle.rx_text.specs.Machine.{close, end_item};
 ghost use Rattle.rx_text.specs.Nodes.{top, rest};
 ghost use Rattle.rx_text.specs.Reader.{made_of, frame_of, held, under, frames_of, node_count};
-ghost use Rattle.rx_text.specs.Reader.{IsStack, IsOpening, Moves, IsAt, Steps};
+ghost use Rattle.rx_text.specs.Reader.{IsStack, IsOpening, IsUnannotated, Moves, IsAt, Steps};
 ghost use Rattle.rx_text.specs.Verdict.{longest};
 ghost use Rattle.rx_text.specs.Answer.{AreRead, IsFault};
 
@@ -108,6 +108,8 @@ impl<'a> Reader<'a> {
         requires stack { IsStack self.old.bytes.now (held frame.opening frame.count)
             self.old.frames.items self.old.nodes.items }
         requires opening { IsOpening self.old.bytes.now frame.opening }
+        requires unannotated { IsUnannotated frame.opening frame.count
+            (made_of self.old.bytes.now self.old.nodes.items) }
         requires few { length self.old.nodes.items ≤ longest }
         ensures moves { let made = made_of self.old.bytes.now self.old.nodes.items in
             Moves self.old.bytes.now (close
@@ -135,6 +137,9 @@ impl<'a> Reader<'a> {
             },
             Opening::Annotations => match token {
                 LexemeKind::CloseBrace => {
+                    if frame.count == 0 {
+                        return Ok(Due::Whole);
+                    }
                     self.nodes.push(Node::Annotations(frame.count))?;
                     Ok(Due::Whole)
                 }

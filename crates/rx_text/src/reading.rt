@@ -6,15 +6,36 @@ ghost use Rattle.rx_term.specs.Store.{tree_at, cells};
 ghost use Rattle.rx_term.specs.Steps.{Grows};
 ghost use Rattle.rx_text.specs.Verdict.{IsVerdict, TooLong, Outside, Spelt};
 ghost use Rattle.rx_text.specs.Faults.{IsOfText};
+ghost use Rattle.rx_text.specs.Answer.{AreNodesOf, AreProperNodes};
 
 use crate::build::build;
 use crate::faults::TextFault;
+use crate::nodes::Node;
 use crate::reader::read_nodes;
 use rx_term::{Term, TermBank};
 use std::alloc::Global;
 
 /// The greatest length of a text, in bytes.
 pub const LONGEST: usize = 16_777_216;
+
+/// Parses a text into the nodes of its tree, each after those of its parts.
+///
+/// Each `Node::Annotations` has a number of annotations that is not 0, and its tree has none yet.
+/// Returns the errors of [`read`] except `Full`. Takes time in proportion to the text.
+pub fn parse(alloc: Global, bytes: &[u8]) -> Result<Vec<Node>, TextFault>
+    ensures spelt { IfOk result (λ nodes. (t : Tree) × IsVerdict bytes.now (Spelt t)
+        × AreNodesOf bytes.now nodes.items t) }
+    ensures proper { IfOk result (λ nodes. AreProperNodes bytes.now nodes.items) }
+    ensures long { IsErrOf result TextFault.Long ↔ IsVerdict bytes.now TooLong }
+    ensures outside { (at : ℕ) → IsErrOf result (TextFault.Grammar at)
+        → IsVerdict bytes.now (Outside at) }
+    ensures not_full { IsErrOf result TextFault.Full → ⊥ }
+{
+    if bytes.len() > LONGEST {
+        return Err(TextFault::Long);
+    }
+    read_nodes(alloc, bytes)
+}
 
 /// Parses a text into a term store, and returns its term.
 ///
@@ -36,9 +57,6 @@ pub fn read<B: TermBank>(alloc: Global, bytes: &[u8], bank: &mut B) -> Result<Te
         → (u : Tree) × IsVerdict bytes.now (Spelt u) }
     ensures grows { Grows (B.store bank.old) (B.store bank.new) }
 {
-    if bytes.len() > LONGEST {
-        return Err(TextFault::Long);
-    }
-    let nodes = read_nodes(alloc, bytes)?;
+    let nodes = parse(alloc, bytes)?;
     build(alloc, bytes, &nodes, bank)
 }

@@ -1,10 +1,10 @@
 //! Tests of input terms that share subterms, whose trees are far larger than their cells.
 
-ghost use Rattle.std.specs.Prelude.{IsSome};
+ghost use Rattle.std.specs.Prelude.{IfOk, IsSome};
 ghost use Rattle.rx_term.specs.Store.{tree_at};
 ghost use Rattle.rec_engine.specs.Engine.{IsGiven};
 
-use crate::banks::{expect_text, plain_box, term_of};
+use crate::banks::{expect_text, plain_box, shared_bank, term_of};
 use crate::engine::{outcome_of, value_of};
 use crate::texts::checked_spec;
 use example_client::evaluating::{admit, engine_over};
@@ -182,4 +182,80 @@ fn shared_terms_end(rt: HostRuntime) {
     calls_are_evaluated(&rt, alloc, plain_box(&rt, alloc, 10_000));
     calls_take_steps(&rt, alloc, plain_box(&rt, alloc, 10_000));
     occurrences_are_limited(&rt, alloc, plain_box(&rt, alloc, 10_000));
+}
+
+/// Returns an engine over an empty store.
+fn engine_of_pairs<B: TermBank + Drop>(
+    rt: &impl Abort,
+    alloc: Global,
+    bank: Box<B>,
+) -> Box<Engine<B>> {
+    let checked = checked_spec(rt, alloc, PAIRS);
+    let engine = engine_over(alloc, checked, Box::into_inner(bank)).expect(rt, "an engine");
+    Box::new(alloc, engine).expect(rt, "memory")
+}
+
+/// Makes `f` of this number of nested pairs in a store, and copies it into the store of an engine.
+fn copy_from<B: TermBank, N: TermBank>(
+    rt: &impl Abort,
+    alloc: Global,
+    engine: &mut Engine<B>,
+    own: &mut N,
+    levels: u32,
+) -> Result<Term, EngineFault>
+    ensures { IfOk result (IsGiven engine.new.spec (B.store engine.new.bank)) }
+{
+    let pair = pairs(rt, alloc, own, levels);
+    assert!(rt; own.holds(pair));
+    let call = first_of(own, pair).expect(rt, "a call");
+    assert!(rt; own.holds(call));
+    admit(alloc, engine.checked(), own, call).expect(rt, "a term to evaluate");
+    engine.given_from(own, call)
+}
+
+/// Aborts the test unless the copy of `f` of this number of nested pairs is rewritten once. Returns
+/// the value.
+fn evaluate_copy<B: TermBank>(
+    rt: &impl Abort,
+    alloc: Global,
+    engine: &mut Engine<B>,
+    levels: u32,
+) -> Term {
+    let mut own = shared_bank(rt, alloc, 10_000);
+    let call = copy_from(rt, alloc, engine, &mut own, levels).expect(rt, "a copy");
+    let outcome = engine.normalise(call, 1).expect(rt, "an outcome");
+    let (value, steps) = value_of(outcome).expect(rt, "a value");
+    assert!(rt; steps == 1);
+    value
+}
+
+/// Aborts the test unless the value of a copy is printed as expected.
+fn copies_are_evaluated<B: TermBank + Drop>(rt: &impl Abort, alloc: Global, bank: Box<B>) {
+    let mut engine = engine_of_pairs(rt, alloc, bank);
+    let value = evaluate_copy(rt, alloc, &mut *engine, 3);
+    let wanted = b"pair(pair(z,z),pair(z,z))";
+    expect_text(rt, alloc, engine.bank(), value, wanted);
+}
+
+/// Aborts the test unless a copy takes at most three cells for each level, and seven more.
+fn copies_are_shared<B: TermBank + Drop>(rt: &impl Abort, alloc: Global, bank: Box<B>) {
+    let mut engine = engine_of_pairs(rt, alloc, bank);
+    evaluate_copy(rt, alloc, &mut *engine, LEVELS);
+    assert!(rt; engine.bank().cells() <= 3 * LEVELS + 7);
+}
+
+/// Aborts the test unless a store without room for a copy is full.
+fn copies_need_room<B: TermBank + Drop>(rt: &impl Abort, alloc: Global, bank: Box<B>) {
+    let mut engine = engine_of_pairs(rt, alloc, bank);
+    let mut own = shared_bank(rt, alloc, 10_000);
+    let copy = copy_from(rt, alloc, &mut *engine, &mut own, LEVELS);
+    assert!(rt; matches!(copy, Err(EngineFault::Room)));
+}
+
+#[test]
+fn copies_shared_terms(rt: HostRuntime) {
+    let alloc = rt.alloc();
+    copies_are_evaluated(&rt, alloc, plain_box(&rt, alloc, 10_000));
+    copies_are_shared(&rt, alloc, plain_box(&rt, alloc, 10_000));
+    copies_need_room(&rt, alloc, plain_box(&rt, alloc, 300));
 }

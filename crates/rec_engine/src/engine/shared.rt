@@ -17,8 +17,8 @@ ghost use Rattle.rec_engine.specs.Engine.{IsGiven};
 ghost use Rattle.rec_engine.specs.Inner.Answered.{IsAnswer, StandsAbove};
 ghost use Rattle.rec_engine.specs.Inner.Given.{IsNode, IsNodeOp};
 ghost use Rattle.rec_engine.specs.Inner.Heap.{IsHeld};
-ghost use Rattle.rec_engine.specs.Inner.Shared.{AreOwnValues, AreShapes, CanVisit, HasNoRules};
-ghost use Rattle.rec_engine.specs.Inner.Shared.{IsOwnValue, visits_ahead};
+ghost use Rattle.rec_engine.specs.Inner.Shared.{AreOwnValues, AreShapes, HasNoRules, IsOwnValue};
+ghost use Rattle.rec_engine.specs.Inner.Visits.{CanVisit};
 ghost use Rattle.rec_engine.specs.Machine.{AreFull};
 ghost use Rattle.rec_engine.specs.Turn.{IsReady, RoomOnlyIn, StaysFor};
 
@@ -28,6 +28,7 @@ use crate::engine::errors::EngineFault;
 use crate::engine::evaluation::Reached;
 use crate::engine::watch::Control;
 use crate::terms::given::Reader;
+use crate::terms::visits::{Visit, enter_node};
 use crate::vm::Machine;
 use indexmap::IndexMap;
 use rec_sorts::push_items;
@@ -54,15 +55,6 @@ impl Shape {
             is_value: self.is_value && argument.is_value,
         }
     }
-}
-
-/// The next visit of a walk over the different subterms of a term.
-#[derive(Clone, Copy, Drop)]
-pub(crate) enum Visit {
-    /// Enters a term: its arguments are visited next.
-    Enter(Term),
-    /// Leaves a term, after all its arguments.
-    Leave(Term),
 }
 
 impl<B: TermBank> Machine<B> {
@@ -155,28 +147,6 @@ impl<B: TermBank> Machine<B> {
         shape
     }
 
-    /// Enters a term: its arguments are visited next, and then it is left.
-    fn enter_node(&self, node: Term, visits: &mut Vec<Visit>) -> Result<(), AllocError>
-        requires held { IsSome (tree_at (B.store self.now.heap.bank) node) }
-        requires nodes { Every (IsNode self.now.checked.spec)
-            (backwards (held_tree (B.store self.now.heap.bank) node)) }
-        requires can { Every (CanVisit self.now.checked.spec (B.store self.now.heap.bank))
-            visits.old.items }
-        ensures can { OnOk result (Every (CanVisit self.now.checked.spec
-            (B.store self.now.heap.bank)) visits.new.items) }
-        ensures fewer { OnOk result (visits_ahead (B.store self.now.heap.bank) visits.new.items
-            < visits_ahead (B.store self.now.heap.bank) visits.old.items
-            + 2 * length (backwards (held_tree (B.store self.now.heap.bank) node))) }
-    {
-        visits.push(Visit::Leave(node))?;
-        let mut rest = self.heap.bank.args(node);
-        while let Kind::Cons = self.heap.bank.kind(rest) {
-            visits.push(Visit::Enter(self.heap.bank.head(rest)))?;
-            rest = self.heap.bank.tail(rest);
-        }
-        Ok(())
-    }
-
     /// Makes the visits and all that follow from them, and finds the shapes of the terms that they
     /// leave.
     fn visit_all(
@@ -185,7 +155,7 @@ impl<B: TermBank> Machine<B> {
         shapes: &mut IndexMap<u32, Shape>,
     ) -> Result<(), AllocError>
         requires ready { IsReady B.store self.now }
-        requires can { Every (CanVisit self.now.checked.spec (B.store self.now.heap.bank))
+        requires can { Every (CanVisit (IsNode self.now.checked.spec) (B.store self.now.heap.bank))
             visits.old.items }
         requires shapes { AreShapes self.now.checked.spec self.now.code.matcher
             (B.store self.now.heap.bank) shapes.old }
@@ -200,7 +170,7 @@ impl<B: TermBank> Machine<B> {
                 }
                 Visit::Enter(node) => {
                     if !shapes.contains_key(&node.0) {
-                        self.enter_node(node, visits)?;
+                        enter_node(&self.heap.bank, node, visits)?;
                     }
                 }
             }

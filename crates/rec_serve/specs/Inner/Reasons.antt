@@ -39,5 +39,4 @@ IsReasoned store ws e text = (text ≡ codes "!memory\n")
 -- the specified response to a request, or the line of an error that has its reason now
 abbrev pub IsReplyOf : {B : Type 0} → (B → Store) → Spec → ServeSettings → Workspace
     → EngineState B → List ℕ → List ℕ → Type 0
-IsReplyOf store y s ws e request reply =
-    IsAnswer y s.options.count s.form s.options.steps request reply ⊎ IsReasoned store ws e reply
+IsReplyOf store y s ws e request reply = IsAnswer y s request reply ⊎ IsReasoned store ws e reply

@@ -15,7 +15,7 @@ type Bounds = (Option<u32>, Option<u64>, Option<u32>, TermChoice);
 /// terms.
 type Row = (&'static [&'static str], [u64; 4], [bool; 8], Bounds);
 
-const OPTIONS: [Row; 10] = [
+const OPTIONS: [Row; 11] = [
     (
         &["eval"],
         [1_000_000, 16_777_216, 65_536, 262_144],
@@ -93,6 +93,12 @@ const OPTIONS: [Row; 10] = [
         (None, None, None, TermChoice::All),
     ),
     (
+        &["serve", "--from-table", "a"],
+        [1_000_000, 16_777_216, 65_536, 262_144],
+        [false, false, false, false, false, false, false, true],
+        (Some(1_000_000), Some(16_777_216), None, TermChoice::All),
+    ),
+    (
         &["eval", "--dot", "5"],
         [1_000_000, 16_777_216, 65_536, 262_144],
         [false, false, false, false, false, false, false, false],
@@ -115,8 +121,9 @@ fn reaches_its_field<H: Abort + Files>(rt: &H, alloc: Global, row: &Row) {
     let Asked::Run(invocation) = asked else {
         return rt.abort();
     };
-    let Request::Eval { options, .. } = invocation.request else {
-        return rt.abort();
+    let options = match invocation.request {
+        Request::Eval { options, .. } | Request::Serve { options, .. } => options,
+        _ => return rt.abort(),
     };
     let EvalOptions {
         terms,

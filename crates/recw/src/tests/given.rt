@@ -276,6 +276,46 @@ pub(crate) const TABLED: &[Row] = &[
         "error: there is no term 4\n\nFor more information, try '--help'.\n",
     ),
     (&["eval", "spec", "terms"], "", 1, "!terms T2\n", ""),
+    (
+        &["serve", "--from-table", "--explain", "spec", "terms"],
+        "",
+        0,
+        "!term T2\n",
+        "terms:1: T2: integer, list or placeholder as a subterm of an input term\n",
+    ),
+];
+
+/// Requests: tables, of which the last one is not a term.
+pub(crate) const REQUESTS: Shelf = Shelf {
+    spec: ADDITION,
+    terms: "[s(z),plus(<0>,<0>){7,<0>}]\ns(z)\n[s(z),<0>",
+};
+
+/// Sessions whose requests are tables.
+pub(crate) const SERVED: &[Row] = &[
+    (
+        &["serve", "--from-table", "--count", "spec", "terms"],
+        "",
+        0,
+        "s(s(z)){7,s(z)}\t2\n!term R1\n!term A\n",
+        "",
+    ),
+    (
+        &["serve", "spec", "terms", "--to-table", "--from-table"],
+        "",
+        0,
+        "[s(s(z)){7,s(z)}]\n!term R1\n!term A\n",
+        "",
+    ),
+    (
+        &["serve", "--explain", "--from-table", "spec", "terms"],
+        "",
+        0,
+        "s(s(z)){7,s(z)}\n!term R1\n!term A\n",
+        "terms:2: R1: table that is not a list without annotations, or has no element\n\
+         terms:3:10: A: syntax error in the annotated term; unexpected end of text; \
+         expected `]`, `{` or `,`\n    [s(z),<0>\n             ^\n",
+    ),
 ];
 
 /// A table with an element that refers to itself.
@@ -284,8 +324,16 @@ pub(crate) const BROKEN: Shelf = Shelf {
     terms: "[s(z),[plus(<1>,z)]]",
 };
 
-/// The errors of tables of input terms.
+/// The errors of tables of input terms, and of a request.
 pub(crate) const REFUSED: &[Row] = &[
+    (
+        &["serve", "--from-table", "--explain", "spec", "terms"],
+        "",
+        0,
+        "!term R2\n",
+        "terms:1: R2: placeholder of a table that is not <N>, N being an earlier element, \
+         nor <[TERM]>; element 2 of the list\n",
+    ),
     (
         &["eval", "--terms-table", "spec", "terms"],
         "",

@@ -113,6 +113,7 @@ Arguments:
   [FILE]  File with a term on each line, or - [default: standard input]
 
 Options:
+      --from-table   Read a table on each line, and use its term
       --steps <N>    Step limit per term, up to 10^18 [default: 1000000]
       --cells <C>    Cells in the store, 1 to 2^30 [default: 16777216]
       --memo <M>     Results in memo table, 0 to 2^20 [default: 65536]

@@ -85,6 +85,8 @@ const WRONG_TRACE: &[&[&str]] = &[
     &["serve", "a", "--terms-table"],
     &["trace", "-", "a", "--terms-table"],
     &["serve", "a", "--to-table", "--bytes", "9"],
+    &["serve", "a", "--from-table", "--from-table"],
+    &["trace", "-", "--from-table"],
     &["trace", "-", "--to-table"],
     &["trace", "-", "--sizes"],
     &["serve", "a", "--sizes"],

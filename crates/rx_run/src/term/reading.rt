@@ -1,10 +1,8 @@
 //! Reads the text of one term.
 
-ghost use Rattle.std.specs.Prelude.{◌≡◌, ◌<◌, ◌≤◌, IfOk, IfErr, IsSome, OnOk};
+ghost use Rattle.std.specs.Prelude.{◌≡◌, ◌<◌, ◌≤◌, IfOk, IfErr, OnOk};
 ghost use Rattle.rx_term.specs.Steps.{Grows};
-ghost use Rattle.rx_term.specs.Store.{tree_at};
-ghost use Rattle.rx_term.specs.Walks.{held_tree};
-ghost use Rattle.rx_text.specs.Verdict.{Verdict, Spelt, IsVerdict};
+ghost use Rattle.rx_text.specs.Verdict.{Verdict, IsVerdict};
 ghost use Rattle.rx_text.specs.Input.{remaining_in};
 ghost use Rattle.rx_shared.specs.State.{IsEmptyStore, store_of};
 ghost use Rattle.rx_run.specs.Run.{IsReadOut, RanOut, StopsUnwritten};
@@ -12,13 +10,12 @@ ghost use Rattle.rx_run.specs.Streams.{ReportsRead};
 ghost use Rattle.rx_run.specs.Readings.{IsReadingOfTable, Parses};
 ghost use Rattle.rx_run.specs.TermRuns.{IsReadingOf};
 ghost use Rattle.rx_run.specs.Inner.TermReadings.{IsGivenIn};
-ghost use Rattle.rx_run.specs.declared.term.reading.InputForm.TheVariants.{Table};
 
 use crate::ending::{RunFault, Source};
 use crate::refusal::{Reading, Reason};
 use crate::streams::read_all_from;
 use rx_shared::SharedBank;
-use rx_table::{TableFault, open_table};
+use rx_table::{TableFault, read_table};
 use rx_term::{Term, TermBank};
 use rx_text::{Input, TextFault};
 use std::alloc::Global;
@@ -33,8 +30,7 @@ pub enum InputForm {
     /// The text of a term.
     Term,
     /// The text of a table, whose term is taken. A text that is not a table is rejected with `R1` or
-    /// `R2`. It is read into a store of its own with up to 2^30 cells; if that is full, which takes
-    /// more than a text of [`LIMIT`](crate::LIMIT) bytes, the run fails with `Memory`.
+    /// `R2`. Only the term takes cells of the store.
     Table,
 }
 
@@ -90,10 +86,8 @@ pub fn parse<B: TermBank>(
     }
 }
 
-/// Reads a text in this form into a store. `source` is the input that an error names.
-///
-/// A table is read into a store of its own with up to 2^30 cells, and only its term is made in
-/// `bank`. The time is linear in the text.
+/// Reads a text in this form into a store. `source` is the input that an error names. The time is
+/// linear in the text.
 ///
 /// # Errors
 ///
@@ -109,67 +103,32 @@ pub fn parse_input<B: TermBank>(
 {
     match form {
         InputForm::Term => parse(alloc, source, text, bank),
-        InputForm::Table => match empty_bank(alloc, MOST_CELLS) {
-            Ok(tables) => parse_table(alloc, source, text, tables, bank),
-            Err(fault) => Err(fault),
-        },
+        InputForm::Table => parse_table(alloc, source, text, bank),
     }
 }
 
-/// Reads the text of a table into the empty store `tables`, which it drops, and its term into the
-/// store `bank`.
-fn parse_table<B: TermBank + Drop, C: TermBank>(
+/// Reads the text of a table, and makes its term in a store. `source` is the input that an error
+/// names.
+fn parse_table<B: TermBank>(
     alloc: Global,
     source: Source,
     text: &[u8],
-    mut tables: B,
-    bank: &mut C,
+    bank: &mut B,
 ) -> Result<Reading<Term>, RunFault>
-    requires limit { (B.store tables).cap ≡ 1073741824 }
-    ensures { Parses source Table text.now (C.store bank.old) (C.store bank.new) result }
+    ensures read { IfOk result (λ reading. (v : Verdict) ×
+        IsReadingOfTable source (B.store bank.new) reading v × IsVerdict text.now v) }
+    ensures grows { Grows (B.store bank.old) (B.store bank.new) }
+    ensures fault { IfErr result (RanOut (B.store bank.old) (B.store bank.new)) }
 {
-    open_text(alloc, source, text, &mut tables, bank)
-}
-
-/// Reads the text of a table into the store `tables`, and its term into the store `bank`.
-fn open_text<B: TermBank, C: TermBank>(
-    alloc: Global,
-    source: Source,
-    text: &[u8],
-    tables: &mut B,
-    bank: &mut C,
-) -> Result<Reading<Term>, RunFault>
-    ensures { Parses source Table text.now (C.store bank.old) (C.store bank.new) result }
-{
-    match parse(alloc, source, text, tables) {
-        Ok(Reading::Good(t)) => open_term(alloc, source, tables, t, bank),
-        Ok(Reading::Refused(refusal)) => Ok(Reading::Refused(refusal)),
-        Err(_) => Err(RunFault::Memory { lines: 0 }),
-    }
-}
-
-/// Makes, in the store `bank`, the term of a table of the store `tables`, or rejects what is not a
-/// table.
-fn open_term<B: TermBank, C: TermBank>(
-    alloc: Global,
-    source: Source,
-    tables: &B,
-    t: Term,
-    bank: &mut C,
-) -> Result<Reading<Term>, RunFault>
-    requires { IsSome (tree_at (B.store tables.now) t) }
-    ensures read { IfOk result (λ reading. IsReadingOfTable source (C.store bank.new) reading
-        (Spelt (held_tree (B.store tables.now) t))) }
-    ensures grows { Grows (C.store bank.old) (C.store bank.new) }
-    ensures fault { IfErr result (RanOut (C.store bank.old) (C.store bank.new)) }
-{
-    match open_table(alloc, tables, t, bank) {
+    match read_table(alloc, text, bank) {
         Ok(term) => Ok(Reading::Good(term)),
+        Err(TableFault::Long) => Ok(Reading::refused(source, Reason::Long)),
+        Err(TableFault::Grammar { at }) => Ok(Reading::refused(source, Reason::Outside { at })),
         Err(TableFault::NotTable) => Ok(Reading::refused(source, Reason::NotTable)),
         Err(TableFault::Element { number }) => {
             Ok(Reading::refused(source, Reason::Element { number }))
         }
+        Err(TableFault::Memory) => Err(RunFault::Memory { lines: 0 }),
         Err(TableFault::Full) => Err(RunFault::Room { lines: 0 }),
-        Err(TableFault::Memory | TableFault::Long) => Err(RunFault::Memory { lines: 0 }),
     }
 }

@@ -90,6 +90,7 @@ fn expect_answers(rt: &impl Abort, alloc: Global, out: &mut Sink, row: &Answers)
         options: forgetful(),
         form: ValueForm::Plain,
         depth,
+        input: InputForm::Term,
     };
     let mut requests = bytewise("plus(s(z),z)\nplus(s(s(z)),z)\nz(\nplus(s(z),z){a}");
     let mut spec = bytewise(SUMS);

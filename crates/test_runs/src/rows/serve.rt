@@ -8,7 +8,7 @@ use rec_engine::{Engine, EngineFault};
 use rec_run::{ValueForm, engine_over, read_spec_text};
 use rec_serve::{Deaf, Refusal, ServeFault, ServeSettings, Session, answer, converse, run_serve};
 use rec_sorts::Checked;
-use rx_run::{Ending, Named, Place, Reading, Source};
+use rx_run::{Ending, InputForm, Named, Place, Reading, Source};
 use rx_shared::SharedBank;
 use std::alloc::Global;
 use std::io::ErrorKind;
@@ -20,6 +20,17 @@ const REQUESTS: &str = "f(a)\n\n f ( a ) {b}\nf(a\n3\nf(a{b})\nc\nf\nf(b)\nf(f(a
 /// The responses with one step.
 const LINES: &str = "a\t1\n!term A\na{b}\t1\n!term A\n!term T2\n!term T3\n!term T4\n!term T5\n\
      !term T6\n!limit 1\nb\t0\n";
+
+/// Requests that are read as tables: accepted ones, and some for each error.
+const TABLES: &str =
+    "[f(a)]\n[a,f(<0>){b,<0>}]\n[b{<[a]>}]\n[f(a),f(<0>)]\n\n[a\nf(a)\n[]\n[a]{b}\n\
+     [f(<0>)]\n[a,f(<1>)]\n[a,f(<0>{b})]\n[a,f(<-1>)]\n[a,f(<a>)]\n[3,f(<0>)]\n[b,f(a{<0>})]\n[c]\n\
+     [a,f]\n[b,f(<0>)]";
+
+/// Their responses with one step.
+const TABLE_LINES: &str = "a\t1\na{b,a}\t1\nb{<a>}\t0\n!limit 1\n!term A\n!term A\n!term R1\n\
+     !term R1\n!term R1\n!term R2\n!term R2\n!term R2\n!term R2\n!term R2\n!term T2\n!term T3\n\
+     !term T4\n!term T5\n!term T6\n";
 
 /// Returns the number of complete lines.
 fn lines_in(held: &[u8]) -> u64 {
@@ -39,12 +50,13 @@ fn expect_beginning(rt: &impl Abort, out: &Sink) {
     assert!(rt; LINES.as_bytes().starts_with(out.held.as_slice()));
 }
 
-/// Returns a session with one step and without a call-depth limit.
-fn one_step(alloc: Global, is_counted: bool) -> Session {
+/// Returns a session with one step and without a call-depth limit, whose requests are in this form.
+fn one_step(alloc: Global, is_counted: bool, input: InputForm) -> Session {
     let settings = ServeSettings {
         options: options(1, is_counted),
         form: ValueForm::Plain,
         depth: None,
+        input,
     };
     Session { alloc, settings }
 }
@@ -56,7 +68,7 @@ fn converse_with(
     requests: &mut Slow<'_>,
     out: &mut Sink,
 ) -> Result<Ending, ServeFault> {
-    let session = one_step(alloc, true);
+    let session = one_step(alloc, true, InputForm::Term);
     run_serve(session, &mut bytewise(spec), requests, out, &mut Deaf)
 }
 
@@ -104,6 +116,17 @@ fn answers_each_request(rt: HostRuntime) {
 }
 
 #[test]
+fn answers_each_table(rt: HostRuntime) {
+    let alloc = rt.alloc();
+    let mut out = taking(alloc);
+    let session = one_step(alloc, true, InputForm::Table);
+    let mut spec = bytewise(Q);
+    let mut requests = bytewise(TABLES);
+    let end = run_serve(session, &mut spec, &mut requests, &mut out, &mut Deaf);
+    assert!(rt; matches!(end, Ok(Ending::Done)) && out.held.as_slice() == TABLE_LINES.as_bytes());
+}
+
+#[test]
 fn long_values_are_not_written(rt: HostRuntime) {
     let alloc = rt.alloc();
     let mut out = taking(alloc);
@@ -111,6 +134,7 @@ fn long_values_are_not_written(rt: HostRuntime) {
         options: options(1, true),
         form: ValueForm::Within(4),
         depth: None,
+        input: InputForm::Term,
     };
     let session = Session { alloc, settings };
     let mut spec = bytewise(Q);
@@ -192,35 +216,51 @@ fn store_of(rt: &impl Abort, alloc: Global, cells: u32) -> Box<SharedBank>
     Box::new(alloc, bank).expect(rt, "memory")
 }
 
+/// A request, the form in which it is read, and its response or the reason why it is rejected.
+type Request = (InputForm, &'static str, Result<&'static str, Refusal>);
+
+static ANSWERED: [Request; 6] = [
+    (InputForm::Term, "f(a){b}", Ok("a{b}\n")),
+    (InputForm::Term, "f(", Err(Refusal::Outside { at: 2 })),
+    (InputForm::Table, "[a,f(<0>){b}]", Ok("a{b}\n")),
+    (InputForm::Table, "a", Err(Refusal::NotTable)),
+    (
+        InputForm::Table,
+        "[a,f(<1>)]",
+        Err(Refusal::Element { number: 1 }),
+    ),
+    (
+        InputForm::Table,
+        "[b,f(<0>)]",
+        Err(Refusal::Rule { number: 6 }),
+    ),
+];
+
 /// Aborts the test unless a request has this response.
-fn expect_answer(
-    rt: &impl Abort,
-    alloc: Global,
-    engine: &mut Engine<SharedBank>,
-    request: &[u8],
-    due: Result<&[u8], Refusal>,
-) {
+fn expect_answer(rt: &impl Abort, alloc: Global, engine: &mut Engine<SharedBank>, row: &Request) {
+    let (input, request, due) = *row;
     let mut own = store_of(rt, alloc, 1000);
-    let session = one_step(alloc, false);
-    let answered = answer(session, &mut *own, engine, request).expect(rt, "memory");
+    let session = one_step(alloc, false, input);
+    let answered = answer(session, &mut *own, engine, request.as_bytes()).expect(rt, "memory");
     let is_due = match due {
-        Ok(line) => answered.text.as_slice() == line && answered.refusal.is_none(),
+        Ok(line) => answered.text.as_slice() == line.as_bytes() && answered.refusal.is_none(),
         Err(refusal) => answered.refusal == Some(refusal),
     };
-    assert!(rt; is_due);
+    assert!(rt; is_due, "{request}");
 }
 
 /// Tests a request that does not fit into a store of three cells.
 fn wants_cells(rt: &impl Abort, alloc: Global, engine: &mut Engine<SharedBank>) {
     let mut own = store_of(rt, alloc, 3);
-    let wanting = answer(one_step(alloc, false), &mut *own, engine, b"f(a)");
+    let session = one_step(alloc, false, InputForm::Term);
+    let wanting = answer(session, &mut *own, engine, b"f(a)");
     assert!(rt; matches!(wanting, Err(EngineFault::Room)));
 }
 
 /// Runs a session with the engine.
 fn converses(rt: &impl Abort, alloc: Global, engine: &mut Engine<SharedBank>, out: &mut Sink) {
     let mut requests = bytewise("f(a)\nf(b)\n");
-    let session = one_step(alloc, false);
+    let session = one_step(alloc, false, InputForm::Term);
     let end = converse(session, engine, &mut requests, out, &mut Deaf);
     assert!(rt; end == Ok(()) && out.held.as_slice() == b"a\n!term T6\n".as_slice());
 }
@@ -229,9 +269,9 @@ fn converses(rt: &impl Abort, alloc: Global, engine: &mut Engine<SharedBank>, ou
 fn answers_over_an_engine(rt: HostRuntime) {
     let alloc = rt.alloc();
     let mut engine = engine_for(&rt, alloc, Q.as_bytes());
-    expect_answer(&rt, alloc, &mut engine, b"f(a){b}", Ok(b"a{b}\n"));
-    let outside = Err(Refusal::Outside { at: 2 });
-    expect_answer(&rt, alloc, &mut engine, b"f(", outside);
+    for row in &ANSWERED {
+        expect_answer(&rt, alloc, &mut engine, row);
+    }
     wants_cells(&rt, alloc, &mut engine);
     converses(&rt, alloc, &mut engine, &mut taking(alloc));
 }

@@ -216,27 +216,29 @@ fn a_value_with_many_leaves_has_a_short_table(rt: HostRuntime) {
     assert!(rt; written.as_slice() == due.as_bytes());
 }
 
-/// Returns a session of tables with 121 steps for each request.
-fn table_session(alloc: Global) -> Session {
+/// Returns a session of tables with 121 steps for each request, whose requests are in this form.
+fn table_session(alloc: Global, input: InputForm) -> Session {
     let settings = ServeSettings {
         options: options(121, true),
         form: ValueForm::Table,
         depth: None,
+        input,
     };
     Session { alloc, settings }
 }
 
 /// Aborts the test unless the requests have these responses.
-fn expect_served(rt: &impl Abort, alloc: Global, requests: &mut Slow<'_>, due: &str) {
+fn expect_served(
+    rt: &impl Abort,
+    alloc: Global,
+    input: InputForm,
+    requests: &mut Slow<'_>,
+    due: &str,
+) {
     let mut out = taking(alloc);
     let mut spec = bytewise(TREES);
-    let end = run_serve(
-        table_session(alloc),
-        &mut spec,
-        requests,
-        &mut out,
-        &mut Deaf,
-    );
+    let session = table_session(alloc, input);
+    let end = run_serve(session, &mut spec, requests, &mut out, &mut Deaf);
     assert!(rt;
         matches!(end, Ok(Ending::Done)) && out.held.as_slice() == due.as_bytes(),
         "{due}"
@@ -261,5 +263,25 @@ fn sessions_answer_with_tables(rt: HostRuntime) {
         "[node(leaf,leaf),node(<0>,<0>){[<0>]}]\t5\n[leaf{a}]\t0\n[node(leaf,leaf)]\t3\n\
          !term T5\n[z]\t0\n",
     );
-    expect_served(&rt, alloc, &mut bytewise(&requests), &due);
+    let input = InputForm::Term;
+    expect_served(&rt, alloc, input, &mut bytewise(&requests), &due);
+}
+
+#[test]
+fn a_request_with_many_leaves_has_a_short_table(rt: HostRuntime) {
+    let alloc = rt.alloc();
+    let mut requests = String::new(alloc);
+    push(&rt, &mut requests, "[leaf");
+    for number in 0..59 {
+        push_double(&rt, alloc, &mut requests, number);
+    }
+    push(
+        &rt,
+        &mut requests,
+        ",dup(<59>){id(1)}]\n[leaf,dup(dup(<0>))]\n",
+    );
+    let mut due = doubled_line(&rt, alloc, "{id(1)}", "\t1\n");
+    push(&rt, &mut due, "[node(leaf,leaf),node(<0>,<0>)]\t2\n");
+    let input = InputForm::Table;
+    expect_served(&rt, alloc, input, &mut bytewise(&requests), &due);
 }

@@ -1,26 +1,32 @@
-use Rattle.std.proofs.Common.{Err, ap, refl}
-use Rattle.rx_text.specs.Verdict.{Outside}
-use Rattle.rec_serve.specs.declared.ending.Refusal.TheVariants as refusal
-use Rattle.rec_serve.proofs.OutcomeLemmas.{answered_refused, answered_spelt}
-use Rattle.std.proofs.lemmas.Result.{IfOk-weaker}
+use Rattle.std.proofs.Common.{subst}
+use Rattle.rx_term.proofs.StoreLemmas.{Grows-trans}
+use Rattle.rx_term.specs.declared.Term.{Term}
+use Rattle.rx_run.specs.Readings.{IsReadingIn}
+use Rattle.rx_run.specs.declared.ending.Source.TheVariants as source
+use Rattle.rx_run.specs.declared.refusal.Reading.{Reading}
+use Rattle.rec_serve.proofs.OutcomeLemmas.{answered_refused, answered_taken}
+use Rattle.rec_serve.proofs.TakenLemmas.{read_taken, read_why}
 use Rattle.rec_serve.proofs.answers.answer.Goals as goal
 
-pub returns-in-Ok-clause-answered : goal.returns-in-Ok-clause-answered
-returns-in-Ok-clause-answered g c =
-    answered_spelt c.args.engine.now.spec c.args.session.settings.options.count c.args.session.settings.form c.args.session.settings.options.steps c.args.request.now _ c.in-Ok.ensures.spelt.0
-    c.answer_term.result c.in-Ok.ensures.spelt.1 c.in-Ok.ensures.spelt.2 c.answer_term.ensures.answered
+pub returns-in-Ok-Good-clause-answered : goal.returns-in-Ok-Good-clause-answered
+returns-in-Ok-Good-clause-answered g c =
+    let s = c.args.session.settings in
+    let w = g.N.TermBank.store c.parse_input.new.bank in
+    let v = c.in-Ok-Good.ensures.read in
+    answered_taken c.args.engine.now.spec s c.args.request.now w c.in-Ok-Good.term v.0 c.answer_term.result v.2
+    (read_taken s.input w c.in-Ok-Good.term v.0 (subst (λ (r : Reading Term). IsReadingIn source.Term s.input w r v.0) c.in-Ok-Good.field-0-is v.1))
+    c.answer_term.ensures.answered
 
-pub returns-in-Err-Grammar-clause-answered : goal.returns-in-Err-Grammar-clause-answered
-returns-in-Err-Grammar-clause-answered g c =
-    let at = c.in-Err-Grammar.at in
-    answered_refused c.args.engine.now.spec c.args.session.settings.options.count c.args.session.settings.form c.args.session.settings.options.steps c.args.request.now (Outside at)
-    (refusal.Outside at) c.refuse-in-Err-Grammar.result
-    (c.in-Err-Grammar.ensures.outside at (ap Err c.in-Err-Grammar.field-0-is)) refl refl c.refuse-in-Err-Grammar.ensures.text
-    (rw c.in-Err-Grammar.field-0-is at c.refuse-in-Err-Grammar.ensures.refusal)
+pub returns-in-Ok-Good-clause-grows : goal.returns-in-Ok-Good-clause-grows
+returns-in-Ok-Good-clause-grows g c = Grows-trans c.parse_input.ensures.grows c.answer_term.ensures.grows
 
-pub returns-in-Err-Long-clause-bound : goal.returns-in-Err-Long-clause-bound
-returns-in-Err-Long-clause-bound g c = IfOk-weaker c.refuse.result _ _ (λ a some none. absurd (cc (some, none))) c.refuse.ensures.refusal
-
-pub returns-in-Err-Grammar-clause-bound : goal.returns-in-Err-Grammar-clause-bound
-returns-in-Err-Grammar-clause-bound g c =
-    IfOk-weaker c.refuse-in-Err-Grammar.result _ _ (λ a some none. absurd (cc (some, none))) c.refuse-in-Err-Grammar.ensures.refusal
+pub returns-in-Ok-Refused-clause-answered : goal.returns-in-Ok-Refused-clause-answered
+returns-in-Ok-Refused-clause-answered g c =
+    let s = c.args.session.settings in
+    let w = g.N.TermBank.store c.parse_input.new.bank in
+    let v = c.in-Ok-Refused.ensures.read in
+    let f = c.refusal_for.result in
+    answered_refused c.args.engine.now.spec s c.args.request.now v.0 f c.refuse.result v.2
+    (read_why s.input w c.in-Ok-Refused.refused v.0 f (subst (λ (r : Reading Term). IsReadingIn source.Term s.input w r v.0) c.in-Ok-Refused.field-0-is v.1)
+    c.refusal_for.ensures)
+    c.refuse.ensures.text c.refuse.ensures.refusal

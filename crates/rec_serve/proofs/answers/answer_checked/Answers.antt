@@ -1,32 +1,33 @@
-use Rattle.std.proofs.Common.{refl, ◌∙◌}
+use Rattle.std.proofs.Common.{Err, IfOk, IfSome, subst, sym}
 use Rattle.rx_term.proofs.KeepLemmas.{Keeps-trans}
-use Rattle.rec_sorts.specs.Binding.{tree_of}
-use Rattle.rec_sorts.specs.Evaluation.{term_of}
-use Rattle.rec_serve.proofs.OutcomeLemmas.{answers_tree, bare_value}
+use Rattle.rx_term.specs.Store.{tree_at}
+use Rattle.rx_term.specs.declared.Term.{Term}
+use Rattle.rec_engine.specs.Engine.{IsGiven}
+use Rattle.rec_serve.specs.Answering.{AnswersTree}
+use Rattle.rec_serve.proofs.ReasonLemmas.{cells_alone, deep_alone}
 use Rattle.rec_serve.proofs.answers.answer_checked.Goals as goal
 
-pub outcome_text-requires-clause-value : goal.outcome_text-requires-clause-value
-outcome_text-requires-clause-value g c =
-    let n = c.args.session.settings.options.steps in
-    let (t, held, listed, kept) = c.requires.alone in
-    bare_value g.B.TermBank.store _ _ _ n t c.in_ok-outcome.outcome c.bank.ensures
-    (c.in_ok-outcome.ensures.outcome (tree_of (term_of t)) (c.in_ok-given.ensures.term t listed))
+pub answer_given-requires : goal.answer_given-requires
+answer_given-requires g c = record {
+  term = subst (λ y. IsGiven y (g.N.TermBank.store c.args.own.now) c.args.term) (sym c.given_from.ensures.same.spec) c.requires;
+  given = c.in-Ok.ensures.given;
+  same = c.in-Ok.ensures.term;
+}
 
 pub returns-in-Ok-clause-answered : goal.returns-in-Ok-clause-answered
-returns-in-Ok-clause-answered g c =
-    let counted = c.args.session.settings.options.count in
-    let form = c.args.session.settings.form in
-    let n = c.args.session.settings.options.steps in
-    let (t, held, listed, kept) = c.requires.alone in
-    answers_tree g.B.TermBank.store c.args.engine.now.spec _ _ _ _ counted form n t c.in_ok-outcome.outcome _ held kept c.bank.ensures
-    (c.evaluate_within.ensures.same.spec ∙ c.given_from.ensures.same.spec)
-    (c.in_ok-outcome.ensures.outcome (tree_of (term_of t)) (c.in_ok-given.ensures.term t listed)) c.in-Ok.ensures refl
+returns-in-Ok-clause-answered g c = subst
+    (λ y. IfOk c.answer_given.result (λ a. IfSome (tree_at (g.N.TermBank.store c.args.own.now) c.args.term) (λ t. AnswersTree y c.args.session.settings t a)))
+    c.given_from.ensures.same.spec c.answer_given.ensures.answered
 
 pub returns-in-Ok-clause-keeps : goal.returns-in-Ok-clause-keeps
-returns-in-Ok-clause-keeps g c = Keeps-trans c.given_from.ensures.keeps c.evaluate_within.ensures.keeps
+returns-in-Ok-clause-keeps g c = Keeps-trans c.given_from.ensures.keeps c.answer_given.ensures.keeps
 
-pub returns-in-Err-clause-keeps : goal.returns-in-Err-clause-keeps
-returns-in-Err-clause-keeps g c = Keeps-trans c.given_from.ensures.keeps c.evaluate_within.ensures.keeps
+pub returns-in-Err-clause-room : goal.returns-in-Err-clause-room
+returns-in-Err-clause-room g c =
+    let e = c.given_from.new.self in
+    cells_alone {A = Term} (g.N.TermBank.store c.args.own.now) (g.B.TermBank.store e.bank) e.work e.memo (Err c.in-Err.fault) c.in-Err.ensures.needed
 
-pub returns-in_err-outcome-clause-keeps : goal.returns-in_err-outcome-clause-keeps
-returns-in_err-outcome-clause-keeps g c = Keeps-trans c.given_from.ensures.keeps c.evaluate_within.ensures.keeps
+pub returns-in-Err-clause-deep : goal.returns-in-Err-clause-deep
+returns-in-Err-clause-deep g c =
+    let e = c.given_from.new.self in
+    deep_alone {A = Term} (g.B.TermBank.store e.bank) e.work e.memo e.waiting c.args.session.settings.depth (Err c.in-Err.fault) c.in-Err.ensures.needed

@@ -7,15 +7,12 @@ use Rattle.rec_serve.proofs.answers.answer_term.Goals as goal
 
 pub answer_checked-requires : goal.answer_checked-requires
 answer_checked-requires g c =
-    record {
-      alone = checked_alone c.args.engine.now.spec c.checked.result.now.spec (g.N.TermBank.store c.args.own.now)
-          (g.N.TermBank.store c.alone.new.bank) c.args.term c.in-Ok.list c.requires c.alone.ensures.grows c.in-Ok.ensures.list
-          c.in-Ok-check_terms.ensures.kept c.checked.ensures;
-    }
+    checked_alone c.args.engine.now.spec c.checked.result.now.spec (g.N.TermBank.store c.args.own.now) (g.N.TermBank.store c.alone.new.bank) c.args.term
+    c.in-Ok.list c.requires c.alone.ensures.grows c.in-Ok.ensures.list c.in-Ok-check_terms.ensures.kept c.checked.ensures
 
 pub returns-in-Err-Rule-clause-answered : goal.returns-in-Err-Rule-clause-answered
 returns-in-Err-Rule-clause-answered g c =
-    refused_tree c.args.engine.now.spec c.checked.result.now.spec c.args.session.settings.options.count c.args.session.settings.form c.args.session.settings.options.steps
+    refused_tree c.args.engine.now.spec c.checked.result.now.spec c.args.session.settings
     (g.N.TermBank.store c.args.own.now) (g.N.TermBank.store c.alone.new.bank) c.args.term c.in-Ok.list
     c.in-Err-Rule.field-0 c.in-Err-Rule.number c.refuse.result c.requires c.alone.ensures.grows c.in-Ok.ensures.list c.in-Err-Rule.ensures.broken
     c.in-Err-Rule.field-0-is c.checked.ensures

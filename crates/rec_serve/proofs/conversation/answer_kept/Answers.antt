@@ -22,6 +22,6 @@ pub returns-in-Ok-clause-answered : goal.returns-in-Ok-clause-answered
 returns-in-Ok-clause-answered g c =
     let s = c.take_bank.new.self.session.settings in
     subst (λ (u : Session). IfOk c.answer-found.result (λ (a : Answered). (line : List ℕ) → IsRead c.args.request.now line
-    → IsAnswer c.args.engine.now.spec u.settings.options.count u.settings.form u.settings.options.steps line a.text.items)) c.take_bank.ensures.same
-    (kept_answer c.args.engine.now.spec s.options.count s.form s.options.steps c.args.request.now c.deref.result.now
+    → IsAnswer c.args.engine.now.spec u.settings line a.text.items)) c.take_bank.ensures.same
+    (kept_answer c.args.engine.now.spec s c.args.request.now c.deref.result.now
     c.answer-found.result c.if-request.false c.deref.ensures.value c.answer-found.ensures.answered)

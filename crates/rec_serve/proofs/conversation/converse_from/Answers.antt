@@ -6,13 +6,14 @@ use Rattle.rec_serve.specs.declared.ending.ServeFault.TheVariants.{Memory}
 use Rattle.rec_serve.specs.Inner.Reading.{left_of}
 use Rattle.rec_serve.proofs.CauseLemmas.{cannot_sooner, read_after, uncounted_done, uncounted_left, write_after}
 use Rattle.rec_serve.proofs.KeptLemmas.{left_again}
-use Rattle.rec_serve.proofs.ReasonLemmas.{IsReplyFor, replies_now, stops_now}
+use Rattle.rec_serve.specs.Replies.{IsReply}
+use Rattle.rec_serve.proofs.ReasonLemmas.{replies_now, stops_now}
 use Rattle.rec_serve.proofs.ReplyLemmas.{breaks_at_once, breaks_off, replied_more, replied_none}
 use Rattle.rec_serve.proofs.conversation.converse_from.Goals as goal
 
 pub returns-in-Err-clause-fault : goal.returns-in-Err-clause-fault
 returns-in-Err-clause-fault g c =
-    breaks_at_once (IsReplyFor c.args.engine.now.spec c.args.session.settings) (g.R.Read.remaining c.args.requests.now.reader.now)
+    breaks_at_once (IsReply c.args.engine.now.spec c.args.session.settings) (g.R.Read.remaining c.args.requests.now.reader.now)
     (g.W.Write.contents c.args.out.now.writer.now) Memory refl
 
 pub loop-answered-init : goal.loop-answered-init
@@ -22,7 +23,7 @@ loop-answered-init g c =
       same = record { spec = refl; options = refl };
       session = c.new-2.ensures;
       counted = refl;
-      replied = replied_none (IsReplyFor c.args.engine.now.spec c.args.session.settings) known (left_of c.in-Ok.ahead known)
+      replied = replied_none (IsReply c.args.engine.now.spec c.args.session.settings) known (left_of c.in-Ok.ahead known)
           (contents_of g.W.Write.contents c.args.out.now) (left_again c.in-Ok.ahead known c.in-Ok.ensures);
       read = refl;
       wrote = refl;
@@ -33,7 +34,7 @@ loop-answered-init g c =
 pub returns-in-Err-answer_next-clause-fault : goal.returns-in-Err-answer_next-clause-fault
 returns-in-Err-answer_next-clause-fault g c =
     let inv = c.loop-answered.invariant in
-    breaks_off (IsReplyFor c.args.engine.now.spec c.args.session.settings) _ _ _ _ _
+    breaks_off (IsReply c.args.engine.now.spec c.args.session.settings) _ _ _ _ _
     c.loop-answered.answered c.in-Err-answer_next.fault c.after.result c.after.ensures inv.replied
     (stops_now g.B.TermBank.store c.args.engine.now.spec c.args.session.settings c.loop-answered.engine.spec
     c.loop-answered.progress.workspace.session.settings c.answer_next.new.progress.workspace c.answer_next.new.engine c.in-Err-answer_next.fault _ _ _
@@ -46,7 +47,7 @@ loop-answered-preserved g c =
       same = same_engine_both inv.same c.in-Ok-true.ensures.same;
       session = c.answer_next.ensures.session ∙ inv.session;
       counted = c.in-Ok-true.ensures.counts (ap Ok c.in-Ok-true.field-0-test) ∙ ap (λ n. n + 1) inv.counted;
-      replied = replied_more (IsReplyFor c.args.engine.now.spec c.args.session.settings) _ _ _ _ _ _
+      replied = replied_more (IsReply c.args.engine.now.spec c.args.session.settings) _ _ _ _ _ _
           c.loop-answered.answered inv.replied
           (replies_now g.B.TermBank.store c.args.engine.now.spec c.args.session.settings c.loop-answered.engine.spec
           c.loop-answered.progress.workspace.session.settings c.answer_next.new.progress.workspace c.answer_next.new.engine _ _ _ _ _ _

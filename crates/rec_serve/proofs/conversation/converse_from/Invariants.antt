@@ -3,7 +3,7 @@ use Rattle.rx_text.specs.Input.{IsSameInput, remaining_in}
 use Rattle.rx_text.specs.Output.{IsSameOutput, contents_of}
 use Rattle.rec_engine.specs.Engine.{SameEngine}
 use Rattle.rec_serve.specs.Inner.Reading.{left_of}
-use Rattle.rec_serve.proofs.ReasonLemmas.{IsReplyFor}
+use Rattle.rec_serve.specs.Replies.{IsReply}
 use Rattle.rec_serve.proofs.ReplyLemmas.{Replied}
 use Rattle.rec_serve.proofs.conversation.converse_from.Given as goal
 
@@ -13,7 +13,7 @@ invariant-loop-answered g l = record {
   same : SameEngine l.fn.engine l.engine;
   session : l.progress.workspace.session ≡ l.fn.session;
   counted : l.progress.answered ≡ l.answered;
-  replied : Replied (IsReplyFor l.fn.engine.spec l.fn.session.settings) (remaining_in g.R.Read.remaining l.fn.requests)
+  replied : Replied (IsReply l.fn.engine.spec l.fn.session.settings) (remaining_in g.R.Read.remaining l.fn.requests)
       (left_of l.progress.ahead (remaining_in g.R.Read.remaining l.requests)) (contents_of g.W.Write.contents l.fn.out)
       (contents_of g.W.Write.contents l.out) l.answered;
   read : l.requests.refused ≡ l.fn.requests.refused;

@@ -7,5 +7,5 @@ use Rattle.rec_serve.proofs.runs.serve.Goals as goal
 pub returns-in-Err-clause-fault : goal.returns-in-Err-clause-fault
 returns-in-Err-clause-fault g c =
     let s = c.args.session.settings in
-    breaks_at_once (IsReply c.args.checked.spec s.options.count s.form s.options.steps s.depth) (g.R.Read.remaining c.args.requests.now.reader.now)
+    breaks_at_once (IsReply c.args.checked.spec s) (g.R.Read.remaining c.args.requests.now.reader.now)
     (g.W.Write.contents c.args.out.now.writer.now) Memory refl

@@ -5,8 +5,7 @@ use Rattle.rec_serve.proofs.RunLemmas.{breaks_serving, breaks_unread, good_servi
 use Rattle.rec_serve.proofs.runs.serve_from.Goals as goal
 
 pub returns-in-Ok-clause-fault : goal.returns-in-Ok-clause-fault
-returns-in-Ok-clause-fault g c = breaks_serving c.args.session.settings.options.count c.args.session.settings.form c.args.session.settings.options.steps c.args.session.settings.depth _ _ c.in-Ok.reading
-    c.serve_reading.result _ _ c.in-Ok.ensures.verdict c.serve_reading.ensures.fault
+returns-in-Ok-clause-fault g c = breaks_serving c.args.session.settings _ _ c.in-Ok.reading c.serve_reading.result _ _ c.in-Ok.ensures.verdict c.serve_reading.ensures.fault
 
 pub returns-in-Ok-clause-requests_read : goal.returns-in-Ok-clause-requests_read
 returns-in-Ok-clause-requests_read g c = good_serving (g.S.Read.remaining c.args.spec.now.reader.now) c.in-Ok.reading c.serve_reading.result
@@ -17,7 +16,7 @@ returns-in-Ok-clause-unread g c = refused_serving (g.S.Read.remaining c.args.spe
     (c.serve_reading.new.requests ≡ c.args.requests.now) c.in-Ok.ensures.verdict c.serve_reading.ensures.unread
 
 pub returns-in-Err-clause-fault : goal.returns-in-Err-clause-fault
-returns-in-Err-clause-fault g c = breaks_unread c.args.session.settings.options.count c.args.session.settings.form c.args.session.settings.options.steps c.args.session.settings.depth
+returns-in-Err-clause-fault g c = breaks_unread c.args.session.settings
     (g.S.Read.remaining c.args.spec.now.reader.now) (g.R.Read.remaining c.args.requests.now.reader.now) c.in-Err.fault c.unread.result (g.W.Write.contents c.args.out.now.writer.now)
     c.unread.ensures
 

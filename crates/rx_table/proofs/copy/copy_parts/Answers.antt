@@ -1,50 +1,55 @@
-use Rattle.std.proofs.Common.{◌≡◌, ℕ, [], Some, cond, get_or, rules, sym, ◌∙◌}
-use Rattle.std.specs.Prelude.{nat_eq}
-use Rattle.indexmap.specs.IndexMap.{get}
-use Rattle.rx_term.specs.Walks.{held_tree}
-use Rattle.rx_table.specs.Inner.Walk.{term_of}
-use Rattle.rx_table.proofs.MadeLemmas.{are-made}
-use Rattle.rx_table.proofs.EntryLemmas.{copy-remade, direct-has, none-made, part-has, parts-begin, parts-end, parts-next, there-at}
+use Rattle.std.proofs.Common.{◌≡◌, ◌<◌, ◌++◌, ◌∷◌, [], ◌∙◌, Option, Some, ap, arith, length, length-append, rules, subst, sym}
+use Rattle.std.specs.Option.{option_to_list}
+use Rattle.rx_term.specs.Tree.{Tree}
+use Rattle.rx_term.proofs.StoreLemmas.{Grows-trans}
+use Rattle.rx_table.specs.Inner.Walk.{part_tree}
+use Rattle.rx_table.specs.Inner.Made.{AreMade}
+use Rattle.rx_table.proofs.PartLemmas.{parts-some}
+use Rattle.rx_table.proofs.MadeLemmas.{made-last, made-next}
+use Rattle.rx_table.proofs.MadeLemmas.{copy-remade}
 use Rattle.rx_table.proofs.copy.copy_parts.Goals as goal
 
-pub loop-part-init : goal.loop-part-init
-loop-part-init g c =
+pub loop-made-preserved : goal.loop-made-preserved
+loop-made-preserved g c =
     let v = g.B.TermBank.store c.args.from.now in
-    let w = g.C.TermBank.store c.args.to.now in
-    parts-begin v w Some c.args.parts.now c.args.made.now (none-made v w Some c.args.made.now c.requires.empty)
-
-pub make_part-requires-clause-held : goal.make_part-requires-clause-held
-make_part-requires-clause-held g c =
-    there-at (g.B.TermBank.store c.args.from.now) c.args.parts.now c.loop-part.part-index c.requires.parts c.loop-part-test.true
-
-pub make_part-requires-clause-has : goal.make_part-requires-clause-has
-make_part-requires-clause-has g c =
-    let v = g.B.TermBank.store c.args.from.now in
-    let w = g.C.TermBank.store c.args.to.now in
-    let l = c.loop-part in
-    direct-has v l.made (held_tree v (term_of (get_or c.args.parts.now l.part-index 0)))
-    (part-has v w Some c.args.parts.now c.args.made.now l.part-index (g.C.TermBank.store l.to) l.made c.loop-part-test.true [] c.requires.order tt l.invariant)
-
-pub make_part-requires-clause-made : goal.make_part-requires-clause-made
-make_part-requires-clause-made g c =
-    let l = c.loop-part in
-    are-made (g.B.TermBank.store c.args.from.now) (g.C.TermBank.store l.to) Some l.made l.invariant.terms
-
-pub returns-clause-has : goal.returns-clause-has
-returns-clause-has g c =
-    parts-end (g.B.TermBank.store c.args.from.now) (g.C.TermBank.store c.args.to.now) Some c.args.parts.now c.args.made.now c.loop-part.part-index
-    (g.C.TermBank.store c.loop-part.to) c.loop-part.made c.loop-part-test.false c.loop-part.invariant [] tt
-
-pub loop-part-preserved : goal.loop-part-preserved
-loop-part-preserved g c =
-    let v = g.B.TermBank.store c.args.from.now in
-    let w = g.C.TermBank.store c.args.to.now in
-    let l = c.loop-part in
+    let keys = c.args.parts.now.terms.keys in
+    let l = c.loop-made in
+    let made = l.made.items in
     let m = g.C.TermBank.store l.to in
-    let u = g.C.TermBank.store c.make_part.new.to in
-    let n = get_or c.args.parts.now l.part-index 0 in
-    let r = c.in_ok-copy.copy in
-    let is = sym (copy-remade (held_tree v (term_of n))) ∙ c.in_ok-copy.ensures.part.1 Some l.invariant.terms in
-    let updates : (q : ℕ) → get nat_eq c.insert.new.self q ≡ cond (nat_eq n q) (Some r) (get nat_eq l.made q) = search rules in
-    parts-next v w Some c.args.parts.now c.args.made.now l.part-index m u l.made c.insert.new.self r c.loop-part-test.true c.requires.parts l.invariant
-    c.make_part.ensures.grows c.in_ok-copy.ensures.part.0 is updates
+    let u = g.C.TermBank.store c.make_next.new.to in
+    let copy = c.in_ok-copy.copy in
+    let i = l.invariant in
+    let pushed : c.push.new.self.items ≡ made ++ copy ∷ [] = search rules in
+    let test = c.loop-made-test.true in
+    let first = c.len.ensures ∙ l.made.ok.0 in
+    let last = c.len-in-loop-made.ensures.len in
+    let lt : length made < length keys = omega (arith, test, first, last) in
+    let size = ap length pushed ∙ length-append made (copy ∷ []) in
+    let here = subst (λ z. AreMade v keys (λ t. t) m z) (sym c.deref.ensures.value) i.made in
+    let is = c.in_ok-copy.ensures.part (λ t. t) here
+    ∙ ap (λ z. let o : Option Tree = Some z in o) (copy-remade (part_tree v keys (length c.deref.result.now)))
+    ∙ ap (λ z. let o : Option Tree = Some (part_tree v keys (length z)) in o) c.deref.ensures.value in
+    record {
+      grows = Grows-trans i.grows c.make_next.ensures.grows;
+      few = omega (arith, size, lt);
+      made = made-next v keys (λ t. t) m made i.made u copy c.push.new.self.items c.make_next.ensures.grows lt is pushed;
+    }
+
+pub unwrap-requires : goal.unwrap-requires
+unwrap-requires g c =
+    let some = parts-some (g.B.TermBank.store c.args.from.now) c.requires.0 c.args.parts.now c.requires.1 in
+    let test = c.loop-made-test.false in
+    let first = c.len.ensures in
+    let last = c.len-in-loop-made.ensures.len in
+    c.pop.ensures.variant.1 (omega (arith, some, test, first, last))
+
+pub returns-clause-copied : goal.returns-clause-copied
+returns-clause-copied g c = λ t h.
+    let v = g.B.TermBank.store c.args.from.now in
+    let l = c.loop-made in
+    let few = l.invariant.few in
+    let test = c.loop-made-test.false in
+    let first = c.len.ensures ∙ l.made.ok.0 in
+    let last = c.len-in-loop-made.ensures.len in
+    made-last v t c.args.parts.now h (λ t. t) (g.C.TermBank.store l.to) l.made.items l.invariant.made (omega (arith, few, test, first, last))
+    c.pop.new.self.items c.unwrap.result (c.pop.ensures.items ∙ ap (λ o. c.pop.new.self.items ++ option_to_list o) c.unwrap.ensures)

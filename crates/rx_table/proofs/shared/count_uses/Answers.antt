@@ -1,26 +1,27 @@
-use Rattle.std.proofs.Common.{◌++◌, get_or, sym, subst}
-use Rattle.rx_term.specs.Walks.{HaveTrees, held_tree}
-use Rattle.rx_table.specs.Table.{direct}
-use Rattle.rx_table.specs.Inner.Walk.{term_of}
-use Rattle.rx_table.specs.Inner.Shared.{Counts, numbers}
-use Rattle.rx_table.proofs.SharedLemmas.{numbers-both, uses-all, uses-more}
+use Rattle.std.proofs.Common.{◌+◌, ap, arith, get_or, set}
+use Rattle.std.proofs.lemmas.List.{get_or_read}
+use Rattle.rx_table.proofs.SharedLemmas.{count-room, count-within, counts-next}
 use Rattle.rx_table.proofs.shared.count_uses.Goals as goal
 
-pub loop-part-preserved : goal.loop-part-preserved
-loop-part-preserved g c =
-    let w = g.B.TermBank.store c.args.bank.now in
-    let i = c.loop-part.invariant in
-    let inside = c.deref.result.now in
-    let t = held_tree w (term_of (get_or c.args.parts.now c.loop-part.part-index 0)) in
-    let have = subst (λ z. HaveTrees w z (direct t)) (sym c.deref.ensures.value) c.in_ok-inside.ensures in
-    let counted = c.in_ok-note_uses.ensures (numbers i.0) i.2 in (
-      i.0 ++ inside,
-      uses-more w c.args.parts.now c.loop-part.part-index c.loop-part-test.true i.0 inside i.1 have,
-      subst (Counts c.note_uses.new.uses) (sym (numbers-both i.0 inside)) counted,
-    )
+pub overflow_add-index_mut : goal.overflow_add-index_mut
+overflow_add-index_mut c =
+    let is = c.args.inside.now in
+    let old = c.loop-index.uses.items in
+    let k = c.loop-index.index-index in
+    let lt = c.loop-index-test.true in
+    let h = c.loop-index.invariant in
+    let a = count-room c.args.count is old k lt c.requires h in
+    let r = get_or_read old (get_or is k 0) c.index_mut.result.now (count-within c.args.count is old k lt c.requires h) c.index_mut.ensures.value 0 in
+    let q = c.loop-index.auto.index-index-end in
+    omega (arith, a, r, lt, q)
 
-pub returns : goal.returns
-returns g c = λ n held.
-    let i = c.loop-part.invariant in
-    uses-all (g.B.TermBank.store c.args.bank.now) (g.met.B.TermBank.sound c.args.bank.now) c.args.parts.now c.loop-part.part-index c.loop-part-test.false
-    i.0 c.loop-part.uses.once.keys c.loop-part.uses.twice.keys i.1 i.2 n held
+pub loop-index-preserved : goal.loop-index-preserved
+loop-index-preserved c =
+    let is = c.args.inside.now in
+    let old = c.loop-index.uses.items in
+    let k = c.loop-index.index-index in
+    let j = get_or is k 0 in
+    let lt = c.loop-index-test.true in
+    let h = c.loop-index.invariant in
+    let r = get_or_read old j c.index_mut.result.now (count-within c.args.count is old k lt c.requires h) c.index_mut.ensures.value 0 in
+    counts-next c.args.count is old k lt c.requires h (set old j (c.index_mut.result.now + 1)) (ap (λ z. set old j (z + 1)) r)

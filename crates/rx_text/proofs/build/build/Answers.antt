@@ -9,8 +9,8 @@ loop-node-init g c = record {
   grows = Grows-refl _;
 }
 
-pub make-requires : goal.make-requires
-make-requires g c =
+pub make_node-requires : goal.make_node-requires
+make_node-requires g c =
     let l = c.loop-node in
     let cut = next_node c.args.nodes.now l.node-index c.loop-node-test.true in
     let h = turn_needs (g.B.TermBank.store l.bank) c.args.bytes.now l.made.items c.args.nodes.now _ _ (get_or c.args.nodes.now l.node-index no_node)
@@ -22,9 +22,9 @@ loop-node-preserved g c =
     let l = c.loop-node in
     let cut = next_node c.args.nodes.now l.node-index c.loop-node-test.true in
     record {
-      under_way = rw c.in_ok-push.ensures.items (turn (g.B.TermBank.store l.bank) (g.B.TermBank.store c.make.new.bank) c.args.bytes.now l.made.items _
+      under_way = rw c.in_ok-push.ensures.items (turn (g.B.TermBank.store l.bank) (g.B.TermBank.store c.make_node.new.bank) c.args.bytes.now l.made.items _
           c.args.nodes.now _ _ (get_or c.args.nodes.now l.node-index no_node) cut l.invariant.under_way c.in_ok-term.ensures.made);
-      grows = Grows-trans l.invariant.grows c.make.ensures.grows;
+      grows = Grows-trans l.invariant.grows c.make_node.ensures.grows;
     }
 
 pub index-requires : goal.index-requires
@@ -43,10 +43,10 @@ returns-clause-made g c = λ t nodes.
     only_one (g.B.TermBank.store l.bank) l.made.items c.index.result.now t h c.index.ensures
 
 pub returns-in_err-term-clause-grows : goal.returns-in_err-term-clause-grows
-returns-in_err-term-clause-grows g c = Grows-trans c.loop-node.invariant.grows c.make.ensures.grows
+returns-in_err-term-clause-grows g c = Grows-trans c.loop-node.invariant.grows c.make_node.ensures.grows
 
 pub returns-in_err-push-clause-grows : goal.returns-in_err-push-clause-grows
-returns-in_err-push-clause-grows g c = Grows-trans c.loop-node.invariant.grows c.make.ensures.grows
+returns-in_err-push-clause-grows g c = Grows-trans c.loop-node.invariant.grows c.make_node.ensures.grows
 
 pub returns-clause-grows : goal.returns-clause-grows
 returns-clause-grows g c = c.loop-node.invariant.grows

@@ -4,7 +4,8 @@ use Rattle.rx_term.specs.Walks.{held_tree, held_trees}
 use Rattle.rec_sorts.specs.Evaluation.{Call}
 use Rattle.rec_engine.specs.Machine.{called}
 use Rattle.rec_engine.proofs.NormalLemmas.{given-nodes}
-use Rattle.rec_engine.proofs.ShapeLemmas.{root-node}
+use Rattle.rec_engine.specs.Inner.Given.{IsNode}
+use Rattle.rec_engine.proofs.VisitLemmas.{root-of}
 use Rattle.rec_engine.proofs.SharedLemmas.{callee-call, callee-filled, call-evaluates, call-answers}
 use Rattle.rec_engine.proofs.vm.Machine.evaluate_call.Goals as goal
 
@@ -12,7 +13,7 @@ pub node_op-requires-clause-node : goal.node_op-requires-clause-node
 node_op-requires-clause-node g c =
     let y = c.args.self.now.checked.spec in
     let w = g.B.TermBank.store c.args.self.now.heap.bank in
-    root-node y (held_tree w c.args.t) (given-nodes y w c.args.t c.requires.given)
+    root-of (IsNode y) (held_tree w c.args.t) (given-nodes y w c.args.t c.requires.given)
 
 pub call_with-requires-clause-count : goal.call_with-requires-clause-count
 call_with-requires-clause-count g c =

@@ -1,3 +1,4 @@
+use Rattle.std.proofs.Common.{arith}
 use Rattle.rx_text.proofs.SteppingLemmas.{arguments_move, list_moves, annotations_move}
 use Rattle.rx_text.proofs.reader.Reader.close.Goals as goal
 
@@ -17,4 +18,5 @@ pub returns-in_ok-push-in-CloseBrace-clause-moves : goal.returns-in_ok-push-in-C
 returns-in_ok-push-in-CloseBrace-clause-moves c =
     let r = c.args.self.now in
     rw (c.in-Annotations.is, c.in-CloseBrace.is) (annotations_move r.bytes.now c.args.frame.count r.frames.items r.nodes.items
-    c.push-in-CloseBrace.new.self.items c.in_ok-push-in-CloseBrace.ensures.items (rw c.in-Annotations.is at c.requires.stack))
+    c.push-in-CloseBrace.new.self.items c.in_ok-push-in-CloseBrace.ensures.items (rw c.in-Annotations.is at c.requires.stack) (omega arith)
+    (rw c.in-Annotations.is at c.requires.unannotated))

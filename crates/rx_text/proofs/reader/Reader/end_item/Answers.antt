@@ -15,7 +15,7 @@ close-requires c =
     let r = c.args.self.now in
     let h = end_requires r.bytes.now r.frames.items c.pop.new.self.items c.in-Some.frame r.nodes.items c.in-Some.ensures.items
     c.in_default-opening.not-Placeholder c.requires.state in
-    record { stack = h.0; opening = h.1; few = omega (arith, c.requires.few) }
+    record { stack = h.0; opening = h.1; unannotated = h.2; few = omega (arith, c.requires.few) }
 
 pub returns : goal.returns
 returns c =
