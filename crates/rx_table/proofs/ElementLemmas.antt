@@ -118,6 +118,7 @@ module _ (w : Store) (sound : IsSound w) (ns : List ℕ) (ms : List (Option ℕ)
     where
       at : ℕ
       at = position_or_len (nat_eq i) ns
+
       by : (b : Bool) → nat_lt (position_or_len (nat_eq i) ns) (length ns) ≡ b
           → cond (nat_lt (position_or_len (nat_eq i) ns) (length ns)) (slice_index_or ms (position_or_len (nat_eq i) ns) None) None ≡ slice_index_or ms k None
       by true f =
@@ -131,6 +132,7 @@ module _ (w : Store) (sound : IsSound w) (ns : List ℕ) (ms : List (Option ℕ)
     where
       at : ℕ
       at = position_or_len (nat_eq i) ns
+
       by : (b : Bool) → nat_lt (position_or_len (nat_eq i) ns) (length ns) ≡ b
           → cond (nat_lt (position_or_len (nat_eq i) ns) (length ns)) (slice_index_or ms (position_or_len (nat_eq i) ns) None) None ≡ None
       by true f = absurd (let q : Some at ≡ None = sym (ap (λ b. cond b (Some at) None) f) ∙ e in cc q)
@@ -225,7 +227,7 @@ table-text t qs e =
     let c = list-text (map (entry ps) ps) (written ps t) in
     let d : ps ≡ shared t = ap (λ zs. filter (is_shared zs) zs) e in
     let whole : canon (list_of (from_list (map (entry ps) ps ++ written ps t ∷ []))) ≡ canon (table t) =
-        ap (λ zs. canon (list_of (from_list (map (entry zs) zs ++ written zs t ∷ [])))) d in
+    ap (λ zs. canon (list_of (from_list (map (entry zs) zs ++ written zs t ∷ [])))) d in
     ap (λ xs. 91 ∷ xs ++ canon (text.written (text.Numbered number) t) ++ 93 ∷ []) a
     ∙ ap (λ u. 91 ∷ flat_map with_comma (map (entry ps) ps) ++ canon u ++ 93 ∷ []) b
     ∙ ap (λ xs. 91 ∷ xs ++ 93 ∷ []) (sym c) ∙ whole
@@ -332,8 +334,8 @@ counting-next bs i next numbers lt (items, count) =
     let more = take_more bs i false lt in
     let z : 0 + trues (take i bs) ≡ next = omega (arith, count) in (
       ap (λ ns. ns ++ cond b (Some next) None ∷ []) items
-      ∙ ap (λ n. counted 0 (take i bs) ++ cond b (Some n) None ∷ []) (sym z)
-      ∙ sym (counted-more 0 (take i bs) b) ∙ ap (counted 0) (sym more),
+          ∙ ap (λ n. counted 0 (take i bs) ++ cond b (Some n) None ∷ []) (sym z)
+          ∙ sym (counted-more 0 (take i bs) b) ∙ ap (counted 0) (sym more),
       ap (λ n. n + cond b 1 0) count ∙ sym (trues-more (take i bs) b) ∙ ap trues (sym more),
     )
 

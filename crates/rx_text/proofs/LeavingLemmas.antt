@@ -212,8 +212,8 @@ module _ (v : Source) (t inner : Term) (h : HasHole v.store t) (at_inner : tree_
       let room : seen 1 body_size (tree_at v.store t) ≡ 3 + size h.inside = rw here refl in
       let inner_room : job_size v.store (job.Tree inner) ≡ size h.inside = rw i refl in
       let inside : Leaves v ((60 ∷ 91 ∷ []) ++ rest) (2 + size h.inside) old new between after =
-          leaves_two v ((60 ∷ 91 ∷ []) ++ rest) (60 ∷ 91 ∷ []) (2 + size h.inside) old new between after (job.Byte 93) (job.Tree inner) more_grown tt
-          (rw i refl) (ap (λ xs. (60 ∷ 91 ∷ []) ++ (xs ++ 93 ∷ [])) (sym tree)) (omega (arith, inner_room)) a in
+      leaves_two v ((60 ∷ 91 ∷ []) ++ rest) (60 ∷ 91 ∷ []) (2 + size h.inside) old new between after (job.Byte 93) (job.Tree inner) more_grown tt
+      (rw i refl) (ap (λ xs. (60 ∷ 91 ∷ []) ++ (xs ++ 93 ∷ [])) (sym tree)) (omega (arith, inner_room)) a in
       leaves_after v (seen [] (entry_text v.style) (tree_at v.store t)) ((60 ∷ 91 ∷ []) ++ rest) (seen 1 body_size (tree_at v.store t))
       (2 + size h.inside) old new before between after (job.Byte 62) grown tt (listed_front v t h some) (omega (arith, room)) inside
 
@@ -315,6 +315,7 @@ number_text v t n h e = by (tree_at v.store t) h e
     some_size (Appl name quoted args anns) = omega arith
     some_size (Items items anns) = omega arith
     some_size (Hole inner anns) = omega arith
+
     by : (o : Option Tree) → IsSome o → number_in v.style (unwrap_or o (list_of none)) ≡ Some n
         → (seen [] (λ u. canon (written v.style u)) o ≡ canon (reference n)) × (0 < seen 1 size o)
     by None e k = absurd (cc e)

@@ -11,5 +11,5 @@ invariant-loop-index g l =
     let p = l.fn.printer in
     let w = g.B.TermBank.store p.bank.now in
     Printing (style_of p.numbers w) (trees_of w p.numbers.parts.now.terms.keys) p.numbers.numbers.now (elements_of g.B.TermBank.store p)
-        (g.W.Write.contents l.fn.out.writer.now) (g.W.Write.contents l.out.writer.now) l.index
+    (g.W.Write.contents l.fn.out.writer.now) (g.W.Write.contents l.out.writer.now) l.index
     × (l.out.refused ≡ l.fn.out.refused) × IsSameOutput l.fn.out l.out
