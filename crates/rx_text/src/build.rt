@@ -120,6 +120,7 @@ fn make_annotated<B: TermBank>(
 
 /// Makes the tree of a node of the text `bytes` in a store. Its parts are the last of the terms
 /// `made`, which are removed. Takes time in proportion to their number and the name of the node.
+#[inline(always)]
 pub fn make_node<B: TermBank>(
     bytes: &[u8],
     node: Node,

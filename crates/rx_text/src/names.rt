@@ -69,6 +69,7 @@ pub(crate) fn put_name<W: Write>(
 }
 
 /// Writes an integer.
+#[inline(always)]
 pub(crate) fn put_integer<W: Write>(out: &mut Output<'_, W>, value: i32) -> Result<(), RefusedWrite>
     ensures written { OnOk result (Writes W.contents out.old out.new (signed_decimal value)) }
     ensures front { OnErr result (WritesFront W.contents out.old out.new (signed_decimal value)) }

@@ -140,6 +140,7 @@ pub struct Printer<'a, B, N> {
 
 impl<B: TermBank, N: Numbers> Printer<'_, B, N> {
     /// Writes the start of an application without its annotations, and pushes the rest.
+    #[inline]
     fn write_application<W: Write>(
         &self,
         term: Term,
@@ -171,6 +172,7 @@ impl<B: TermBank, N: Numbers> Printer<'_, B, N> {
     }
 
     /// Writes the start of a placeholder without its annotations, and pushes the rest.
+    #[inline]
     fn write_placeholder<W: Write>(
         &self,
         term: Term,
@@ -200,6 +202,7 @@ impl<B: TermBank, N: Numbers> Printer<'_, B, N> {
     }
 
     /// Writes the start of a term without its annotations, and pushes the rest.
+    #[inline(always)]
     fn write_body<W: Write>(
         &self,
         term: Term,
@@ -228,6 +231,7 @@ impl<B: TermBank, N: Numbers> Printer<'_, B, N> {
     }
 
     /// Writes the start of a term without its own number, and pushes the rest.
+    #[inline(always)]
     fn write_tree<W: Write>(
         &self,
         term: Term,
@@ -250,6 +254,7 @@ impl<B: TermBank, N: Numbers> Printer<'_, B, N> {
 
     /// Writes the number of a term if it has one; otherwise the start of the term, and pushes the
     /// rest.
+    #[inline(always)]
     fn write_numbered<W: Write>(
         &self,
         term: Term,
@@ -297,6 +302,7 @@ impl<B: TermBank, N: Numbers> Printer<'_, B, N> {
     }
 
     /// Pushes the items of a list.
+    #[inline(always)]
     fn leave_items(&self, list: Term, jobs: &mut Vec<Job>) -> Result<(), WriteFault>
         requires { IsJob (B.store self.now.bank.now) (Job.Items list) }
         ensures left { OnOk result (Adds (source_of B.store N.style self.now)

@@ -7,6 +7,7 @@
 //! | Module | Subject |
 //! |---|---|
 //! | `text` | reading and printing terms |
+//! | `numbers` | numbers in place of terms, nodes of a text |
 //! | `pattern`, `pattern_limits` | matching and building |
 //! | `banks`, `texts` | stores and texts for tests |
 //!
@@ -16,6 +17,8 @@
 
 #[cfg(test)]
 mod banks;
+#[cfg(test)]
+mod numbers;
 #[cfg(test)]
 mod pattern;
 #[cfg(test)]
