@@ -8,12 +8,9 @@ ghost use Rattle.rx_table.specs.Table.{direct};
 ghost use Rattle.rx_table.specs.Inner.Walk.{AreBelow, Enters, HasParts, IsList, Leaves, Pushes};
 ghost use Rattle.rx_table.specs.Inner.Walk.{body_items, part_tree, trees_at};
 
-use indexmap::IndexSet;
+use crate::term_index::TermIndex;
 use rx_term::{Kind, Term, TermBank};
 use std::alloc::{AllocError, Global};
-
-/// The largest number of parts: their indices are integers of terms.
-const MOST: usize = 2_147_483_648;
 
 /// The next visit of a walk.
 #[derive(Clone, Copy, Drop)]
@@ -28,7 +25,7 @@ pub(crate) enum Visit {
 #[derive(Drop)]
 pub(crate) struct Parts {
     /// Their references.
-    pub(crate) terms: IndexSet<u32>,
+    pub(crate) terms: TermIndex,
     /// The indices of the trees one step inside of the first part, of the second part, and so on.
     pub(crate) inside: Vec<u32>,
     /// Where those of each part begin in `inside`, and where the last of them end.
@@ -122,10 +119,7 @@ fn leave(
     ensures { OnOk result
         (Leaves t start parts.old finished.old.items parts.new finished.new.items) }
 {
-    let (index, is_new) = parts.terms.insert_full(t.0)?;
-    if index >= MOST {
-        return Err(AllocError);
-    }
+    let (index, is_new) = parts.terms.add(t.0)?;
     if is_new {
         parts.inside.extend_from_slice(&finished[start..])?;
         parts.bounds.push(parts.inside.len())?;
@@ -135,15 +129,15 @@ fn leave(
     Ok(())
 }
 
-/// Returns the parts of a tree. Looks a reference up once for each tree one step inside of a part,
-/// and takes expected time in proportion to the cells of the tree. Reports out of memory also if
-/// there are more than 2,147,483,648 parts.
+/// Returns the parts of a tree. Looks a reference up once for each tree one step inside of a part.
+/// Takes time in proportion to the cells of the tree, and to 1/1,024 of the greatest reference of a
+/// part. Reports out of memory also if there are more than 2,147,483,648 parts.
 pub(crate) fn find_parts<B: TermBank>(alloc: Global, bank: &B, t: Term) -> Result<Parts, AllocError>
     requires { IsSome (tree_at (B.store bank.now) t) }
     ensures { IfOk result (HasParts (B.store bank.now) (held_tree (B.store bank.now) t)) }
 {
     let mut parts = Parts {
-        terms: IndexSet::new(alloc),
+        terms: TermIndex::new(alloc),
         inside: Vec::new(alloc),
         bounds: Vec::new(alloc),
     };
@@ -153,7 +147,7 @@ pub(crate) fn find_parts<B: TermBank>(alloc: Global, bank: &B, t: Term) -> Resul
     visits.push(Visit::Enter(t))?;
     while let Some(visit) = visits.pop() {
         match visit {
-            Visit::Enter(t) => match parts.terms.get_index_of(&t.0) {
+            Visit::Enter(t) => match parts.terms.index_of(t.0) {
                 Some(index) => finished.push(index as u32)?,
                 None => enter(bank, t, finished.len(), &mut visits)?,
             },

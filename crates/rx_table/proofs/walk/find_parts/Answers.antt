@@ -8,7 +8,7 @@ use Rattle.rx_table.proofs.walk.find_parts.Goals as goal
 
 pub loop-visit-init : goal.loop-visit-init
 loop-visit-init g c =
-    walking-begins (g.B.TermBank.store c.args.bank.now) c.args.t _ c.new-finished.result.items c.push-2.new.self.items c.requires c.new.ensures.empty
+    walking-begins (g.B.TermBank.store c.args.bank.now) c.args.t _ c.new-finished.result.items c.push-2.new.self.items c.requires c.new.ensures
     c.new-2.ensures.items (c.in_ok-push.ensures.items ∙ ap (λ z. z ++ 0 ∷ []) c.new-3.ensures.items) c.new-finished.ensures.items
     (c.in_ok-push-2.ensures.items ∙ ap (λ z. z ++ Enter c.args.t ∷ []) c.new-visits.ensures.items)
 
@@ -24,11 +24,11 @@ loop-visit-preserved-in-Continue-branch-3 g c =
     let l = c.loop-visit in
     let vs = c.pop.new.self.items in
     let t = c.in-Enter.t in
-    let i = c.in-Some-get_index_of.index in
-    let p = position-found l.parts.terms.keys t.0 i (sym c.in-Some-get_index_of.ensures.index) in
+    let i = c.in-Some-index_of.index in
+    let p = position-found l.parts.terms.keys t.0 i (sym c.in-Some-index_of.ensures.index) in
     walking-known w (g.met.B.TermBank.sound c.args.bank.now) (held_tree w c.args.t) l.parts l.finished.items l.visits.items vs t
     (c.in-Some.ensures.items ∙ ap (λ (v : Visit). vs ++ v ∷ []) c.in-Enter.is) i
-    c.push-in-Some-get_index_of.new.self.items p.within p.at p.had c.in_ok-push-in-Some-get_index_of.ensures.items l.invariant
+    c.push-in-Some-index_of.new.self.items p.within p.at p.had c.in_ok-push-in-Some-index_of.ensures.items l.invariant
 
 pub enter-requires : goal.enter-requires
 enter-requires g c =
