@@ -120,8 +120,12 @@ direct-both (Appl name quoted args anns) = refl
 direct-both (Items items anns) = refl
 direct-both (Hole inner anns) = refl
 
-pub pushes-both : (w : Store) (mid new : List Term) (xs ys : List Tree) → Pushes w [] mid xs → Pushes w mid new ys → HaveTrees w new (xs ++ ys)
-pushes-both w mid new xs ys (rs, e, h) (bs, f, k) = subst (λ z. HaveTrees w z (xs ++ ys)) (sym (f ∙ ap (λ z. z ++ bs) e)) (have-both w rs bs xs ys h k)
+pub pushes-both : (w : Store) (old mid new : List Term) (xs ys : List Tree) → Pushes w old mid xs → Pushes w mid new ys → Pushes w old new (xs ++ ys)
+pushes-both w old mid new xs ys (rs, e, h) (bs, f, k) = (rs ++ bs, f ∙ ap (λ z. z ++ bs) e ∙ append_assoc old rs bs, have-both w rs bs xs ys h k)
+
+-- what was pushed when there was nothing
+pub pushes-all : (w : Store) (old new : List Term) (ts : List Tree) → old ≡ [] → Pushes w old new ts → HaveTrees w new ts
+pushes-all w old new ts q (added, e, h) = subst (λ z. HaveTrees w z ts) (sym (e ∙ ap (λ z. z ++ added) q)) h
 
 -- ---- visits after others
 
