@@ -1,6 +1,7 @@
 pub mod SubtermLemmas
 pub mod TableLemmas
 pub mod ShortLemmas
+pub mod TermIndexLemmas
 pub mod WalkLemmas
 pub mod PartLemmas
 pub mod MadeLemmas

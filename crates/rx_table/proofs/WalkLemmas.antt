@@ -1,11 +1,11 @@
 -- A walk over the subterms of a tree, one visit after the other.
-use Rattle.std.proofs.Common.{◌≡◌, ℕ, zero, suc, ◌+◌, ◌*◌, ◌^◌, ◌<◌, ◌≤◌, Bool, true, false, cond, List, [], ◌∷◌, ◌++◌}
+use Rattle.std.proofs.Common.{◌≡◌, ℕ, zero, suc, ◌+◌, ◌*◌, ◌<◌, ◌≤◌, Bool, true, false, cond, List, [], ◌∷◌, ◌++◌}
 use Rattle.std.proofs.Common.{Option, Some, None, IsSome, refl, sym, ap, subst, ◌∙◌, append_assoc, append-nil, length, length-append, flat_map, map, arith}
 use Rattle.std.proofs.Common.{drop, get_or, take, take-append-drop}
 use Rattle.std.proofs.lemmas.List.{drop-map, drop_at, get_or_append_left, length-map, take-map, take_at}
 use Rattle.std.proofs.lemmas.Grind.{flat_map-append}
 use borrow.Author.Tests.{ltb-true}
-use Rattle.std.specs.Prelude.{nat_eq, nat_lt, position, slice_get, unwrap_or}
+use Rattle.std.specs.Prelude.{nat_eq, nat_lt, position, unwrap_or}
 use Rattle.std.specs.List.{AllByRecursion, list_any, position_or_len}
 use Rattle.std.proofs.lemmas.Bool.Decides.{Decides-eqb, same_from_decides}
 use Rattle.indexmap.specs.IndexSet.{insert_key, insert_all}
@@ -120,8 +120,12 @@ direct-both (Appl name quoted args anns) = refl
 direct-both (Items items anns) = refl
 direct-both (Hole inner anns) = refl
 
-pub pushes-both : (w : Store) (mid new : List Term) (xs ys : List Tree) → Pushes w [] mid xs → Pushes w mid new ys → HaveTrees w new (xs ++ ys)
-pushes-both w mid new xs ys (rs, e, h) (bs, f, k) = subst (λ z. HaveTrees w z (xs ++ ys)) (sym (f ∙ ap (λ z. z ++ bs) e)) (have-both w rs bs xs ys h k)
+pub pushes-both : (w : Store) (old mid new : List Term) (xs ys : List Tree) → Pushes w old mid xs → Pushes w mid new ys → Pushes w old new (xs ++ ys)
+pushes-both w old mid new xs ys (rs, e, h) (bs, f, k) = (rs ++ bs, f ∙ ap (λ z. z ++ bs) e ∙ append_assoc old rs bs, have-both w rs bs xs ys h k)
+
+-- what was pushed when there was nothing
+pub pushes-all : (w : Store) (old new : List Term) (ts : List Tree) → old ≡ [] → Pushes w old new ts → HaveTrees w new ts
+pushes-all w old new ts q (added, e, h) = subst (λ z. HaveTrees w z ts) (sym (e ∙ ap (λ z. z ++ added) q)) h
 
 -- ---- visits after others
 
@@ -343,34 +347,6 @@ inserted-more ns n = by (list_any (nat_eq n) ns) refl
 
 -- ---- references that are inserted or found
 
-get-found : (ns : List ℕ) (i k : ℕ) → slice_get ns i ≡ Some k → get_or ns i 0 ≡ k
-get-found [] i k e = absurd (cc e)
-get-found (n ∷ ns) zero k e = cc e
-get-found (n ∷ ns) (suc i) k e = get-found ns i k e
-
-absent-place : (p : ℕ → Bool) (ns : List ℕ) → list_any p ns ≡ false → position_or_len p ns ≡ length ns
-absent-place p [] e = refl
-absent-place p (n ∷ ns) e = by (p n) refl (absent-place p ns)
-  where
-    by : (b : Bool) → p n ≡ b → (list_any p ns ≡ false → position_or_len p ns ≡ length ns) → position_or_len p (n ∷ ns) ≡ length (n ∷ ns)
-    by true q later = absurd (let k : true ≡ false = rw q at e in cc k)
-    by false q later = let k = later (rw q at e) in rw q (omega (arith, k))
-
-pub inserted-few : (ns new : List ℕ) (n index : ℕ) → new ≡ insert_key nat_eq ns n → index ≡ position_or_len (nat_eq n) ns → index < 2 ^ 31
-    → length ns ≤ 2 ^ 31 → length new ≤ 2 ^ 31
-inserted-few ns new n index is at lt le = by (list_any (nat_eq n) ns) refl
-  where
-    by : (b : Bool) → list_any (nat_eq n) ns ≡ b → length new ≤ 2 ^ 31
-    by true e = let same : new ≡ ns = is ∙ rw e refl in let k = ap length same in omega (arith, k, le)
-    by false e =
-        let longer : new ≡ ns ++ n ∷ [] = is ∙ rw e refl in
-        let k = ap length longer ∙ length-append ns (n ∷ []) in
-        let p = absent-place (nat_eq n) ns e in
-        omega (arith, k, p, at, lt)
-
-pub inserted-found : (ns : List ℕ) (n i : ℕ) → (k : ℕ) × (slice_get ns i ≡ Some k) × (nat_eq n k ≡ true) → get_or ns i 0 ≡ n
-inserted-found ns n i (k, e, q) = get-found ns i k e ∙ sym ((Decides-eqb n k).0 q)
-
 place-holds : (n : ℕ) (ns : List ℕ) → position_or_len (nat_eq n) ns < length ns
     → (get_or ns (position_or_len (nat_eq n) ns) 0 ≡ n) × (list_any (nat_eq n) ns ≡ true)
 place-holds n [] lt = absurd (omega (arith, lt))
@@ -555,7 +531,7 @@ module _ (w : Store) (sound : IsSound w) (root : Tree) (parts : Parts) (finished
             let same : new.terms.keys ≡ keys = l.keys ∙ rw e refl in
             record {
               there = there-new;
-              few = l.few k.indexed.few;
+              few = l.few;
               below = subst (λ z. AreBelow (length z) new.inside.items) (sym same) (subst (AreBelow (length keys)) (sym q.0) k.indexed.below);
               trees = ap (λ z. trees_at w z new.inside.items) same ∙ ap (trees_at w keys) q.0 ∙ k.indexed.trees
                   ∙ ap (λ z. flat_map direct (trees_of w z)) (sym same);
@@ -581,7 +557,7 @@ module _ (w : Store) (sound : IsSound w) (root : Tree) (parts : Parts) (finished
             let size-of : length new.inside.items ≡ 0 + length (flat_map direct (trees_of w keys ++ u ∷ [])) = omega (arith, sizes) in
             record {
               there = there-new;
-              few = l.few k.indexed.few;
+              few = l.few;
               below = subst (AreBelow (length new.terms.keys)) (sym a.inside) (all-both (λ j. j < length new.terms.keys) parts.inside.items dropped
                   (below-more (length keys) (length new.terms.keys) parts.inside.items longer k.indexed.below)
                   (below-more (length keys) (length new.terms.keys) dropped longer (below-dropped (length keys) start finished k.below)));

@@ -1,4 +1,5 @@
 -- Definitions that only proofs and contracts inside this crate use.
+pub mod Pages
 pub mod Walk
 pub mod Shared
 pub mod Made

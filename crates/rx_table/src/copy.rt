@@ -29,7 +29,7 @@ fn copy_parts<B: TermBank, C: TermBank>(
     ensures refused { IfErr result (IsBankRefusal (C.store to.new)) }
     ensures grows { Grows (C.store to.old) (C.store to.new) }
 {
-    let mut made = Vec::new(*parts.terms.allocator());
+    let mut made = Vec::new(*parts.inside.allocator());
     while made.len() < parts.terms.len() {
         let copy = make_next(from, parts, &made, to)?;
         if made.push(copy).is_err() {
@@ -42,7 +42,8 @@ fn copy_parts<B: TermBank, C: TermBank>(
 /// Makes, in the store `to`, the tree of a term of the store `from`. Fails like all functions that
 /// make terms, and with `Memory` if an allocation failed. Only adds terms: at most one for each cell
 /// of the term, and one for each of its different subterms. Takes expected time in proportion to the
-/// cells of the term, where lists that have a tail in common count each by itself.
+/// cells of the term, where lists that have a tail in common count each by itself, and to 1/1,024 of
+/// the greatest reference of a subterm.
 pub fn copy_term<B: TermBank, C: TermBank>(
     alloc: Global,
     from: &B,
@@ -90,8 +91,9 @@ fn count_in<B: TermBank, C: TermBank>(
     }
 }
 
-/// Returns the number of cells of a term. The only error is out of memory. Takes expected time and
-/// memory in proportion to the cells of the term, which is copied.
+/// Returns the number of cells of a term. The only error is out of memory. The term is copied, which
+/// takes the time of [`copy_term`] and memory in proportion to the cells of the term, and to its
+/// pages of references (see the crate's root).
 pub fn count_cells<B: TermBank>(alloc: Global, bank: &B, t: Term) -> Result<u32, AllocError>
     requires { IsSome (tree_at (B.store bank.now) t) }
     ensures { IfOk result (λ n. IfSome (tree_at (B.store bank.now) t) (λ u. n ≡ part_count u)) }

@@ -30,9 +30,12 @@
 //! tables that the text breaks. Terms are only added; after an error those that were made so far stay
 //! until garbage is collected.
 //!
-//! **Cost.** Printing and copying take expected time in proportion to the cells of the given term and
-//! not to its occurrences: each different subterm is visited once, and its reference is looked up once
-//! for each use. Only a tail that two lists have in common is walked once for each list. Reading takes
+//! **Cost.** Printing and copying take time in proportion to the cells of the given term and not to
+//! its occurrences: each different subterm is visited once, and its reference is looked up once for
+//! each use. Only a tail that two lists have in common is walked once for each list. For a copy this
+//! is expected time, since the other store looks up each term that it makes. References are looked up
+//! in pages of 4 KB: one for each 1,024 references among which the term has a subterm, and 24 bytes
+//! for each 1,024 references up to the greatest, which are written in that much time. Reading takes
 //! expected time in proportion to the text, without recursion, and makes only the cells of the term: a
 //! stack has the terms of what was read, and for each the number of elements that have to come before
 //! it.
@@ -45,6 +48,7 @@ mod made;
 mod reading;
 mod shared;
 mod table;
+mod term_index;
 #[cfg(test)]
 mod tests;
 mod walk;

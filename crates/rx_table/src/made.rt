@@ -171,7 +171,7 @@ pub(crate) fn make_next<B: TermBank, C: TermBank>(
     ensures refused { IfErr result (IsBankRefusal (C.store to.new)) }
     ensures grows { Grows (C.store to.old) (C.store to.new) }
 {
-    let alloc = *parts.terms.allocator();
+    let alloc = *parts.inside.allocator();
     let index = made.len();
     let Ok(items) = pick(alloc, made, inside_of(parts, index)) else {
         return Err(BankFault::Memory);

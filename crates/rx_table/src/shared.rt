@@ -41,8 +41,8 @@ fn is_shared<B: TermBank>(alloc: Global, bank: &B, t: Term, uses: usize) -> Resu
     Ok(write_within(alloc, bank, t, SHORT)?.is_none())
 }
 
-/// Returns for each of the parts of a tree whether it is shared. Takes expected time in proportion to
-/// their cells.
+/// Returns for each of the parts of a tree whether it is shared. Takes time in proportion to their
+/// cells.
 pub(crate) fn shared_parts<B: TermBank>(
     alloc: Global,
     bank: &B,

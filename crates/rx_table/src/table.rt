@@ -40,7 +40,7 @@ impl Numbers for Elements<'_> {
     }
 
     fn number_of(&self, t: Term) -> Option<u32> {
-        match self.parts.terms.get_index_of(&t.0) {
+        match self.parts.terms.index_of(t.0) {
             Some(index) => match self.numbers.get(index) {
                 Some(number) => *number,
                 None => None,
@@ -157,9 +157,9 @@ fn write_list<B: TermBank, W: Write>(
 }
 
 /// Prints the table of a term. After a failure the writer is not called again. `Memory` is returned
-/// if an allocation failed, or if the term has more than 2,147,483,648 different subterms. Takes
-/// expected time in proportion to the cells of the term, where lists that have a tail in common
-/// count each by itself, and to the printed form.
+/// if an allocation failed, or if the term has more than 2,147,483,648 different subterms. Takes time
+/// in proportion to the cells of the term, where lists that have a tail in common count each by
+/// itself, to the printed form, and to 1/1,024 of the greatest reference of a subterm.
 pub fn write_table_to<B: TermBank, W: Write>(
     alloc: Global,
     bank: &B,

@@ -1,5 +1,6 @@
 //! Tables of texts.
 
+use crate::term_index::TermIndex;
 use crate::{TableFault, copy_term, count_cells, read_table, write_table_to};
 use rx_shared::SharedBank;
 use rx_term::{Term, TermBank};
@@ -237,6 +238,26 @@ fn a_huge_tree(rt: HostRuntime) {
     assert!(rt; write_table_to(alloc, &bank, t, &mut Output::new(&mut found)).is_ok());
     let wanted = doubling_table(&rt, alloc, b"node(leaf,leaf)", 999);
     assert!(rt; found.as_slice() == wanted.as_slice());
+}
+
+/// References in one page and in pages far apart have the numbers in which they were added.
+#[test]
+fn indices_of_references(rt: HostRuntime) {
+    let alloc = rt.alloc();
+    let terms = [5, 0, 1_023, 1_024, 70_000_000];
+    let mut index = TermIndex::new(alloc);
+    for (number, t) in terms.iter().enumerate() {
+        assert!(rt; index.index_of(*t) == None);
+        assert!(rt; index.add(*t) == Ok((number, true)));
+    }
+    for (number, t) in terms.iter().enumerate() {
+        assert!(rt; index.index_of(*t) == Some(number));
+        assert!(rt; index.add(*t) == Ok((number, false)));
+    }
+    for absent in &[1, 1_025, 2_048, 70_000_001, 4_000_000_000] {
+        assert!(rt; index.index_of(*absent) == None);
+    }
+    assert!(rt; index.as_slice() == terms.as_slice());
 }
 
 /// Copies have the text of the term, without cells of other terms.

@@ -1,19 +1,16 @@
 //! The different subterms of a tree, in the order of a walk.
 
-ghost use Rattle.std.specs.Prelude.{◌≡◌, ◌<◌, ◌≤◌, IfOk, IsSome, OnOk, length};
+ghost use Rattle.std.specs.Prelude.{◌≡◌, ◌<◌, ◌≤◌, IfOk, IsSome, OnOk, [], length};
 ghost use Rattle.rx_term.specs.Tree.{Tree, annotations, items_of, to_list};
 ghost use Rattle.rx_term.specs.Store.{Store, tree_at};
-ghost use Rattle.rx_term.specs.Walks.{HaveTrees, held_tree};
+ghost use Rattle.rx_term.specs.Walks.{held_tree};
 ghost use Rattle.rx_table.specs.Table.{direct};
 ghost use Rattle.rx_table.specs.Inner.Walk.{AreBelow, Enters, HasParts, IsList, Leaves, Pushes};
 ghost use Rattle.rx_table.specs.Inner.Walk.{body_items, part_tree, trees_at};
 
-use indexmap::IndexSet;
+use crate::term_index::TermIndex;
 use rx_term::{Kind, Term, TermBank};
 use std::alloc::{AllocError, Global};
-
-/// The largest number of parts: their indices are integers of terms.
-const MOST: usize = 2_147_483_648;
 
 /// The next visit of a walk.
 #[derive(Clone, Copy, Drop)]
@@ -28,7 +25,7 @@ pub(crate) enum Visit {
 #[derive(Drop)]
 pub(crate) struct Parts {
     /// Their references.
-    pub(crate) terms: IndexSet<u32>,
+    pub(crate) terms: TermIndex,
     /// The indices of the trees one step inside of the first part, of the second part, and so on.
     pub(crate) inside: Vec<u32>,
     /// Where those of each part begin in `inside`, and where the last of them end.
@@ -78,31 +75,32 @@ fn push_anns<B: TermBank>(bank: &B, t: Term, inside: &mut Vec<Term>) -> Result<(
     }
 }
 
-/// Returns the references of the trees one step inside of a tree.
-fn direct<B: TermBank>(alloc: Global, bank: &B, t: Term) -> Result<Vec<Term>, AllocError>
+/// Pushes the trees one step inside of a tree.
+fn push_direct<B: TermBank>(bank: &B, t: Term, inside: &mut Vec<Term>) -> Result<(), AllocError>
     requires { IsSome (tree_at (B.store bank.now) t) }
-    ensures { IfOk result (λ inside. HaveTrees (B.store bank.now) inside.items
+    ensures { OnOk result (Pushes (B.store bank.now) inside.old.items inside.new.items
         (direct (held_tree (B.store bank.now) t))) }
 {
-    let mut inside = Vec::new(alloc);
-    push_inside(bank, t, &mut inside)?;
-    push_anns(bank, t, &mut inside)?;
-    Ok(inside)
+    push_inside(bank, t, inside)?;
+    push_anns(bank, t, inside)
 }
 
 /// Enters a tree when there are `start` finished trees: the trees inside of it are visited next, from
-/// left to right, and then the tree is left.
+/// left to right, and then the tree is left. The buffer `inside` is empty before and afterwards.
 fn enter<B: TermBank>(
     bank: &B,
     t: Term,
     start: usize,
+    inside: &mut Vec<Term>,
     visits: &mut Vec<Visit>,
 ) -> Result<(), AllocError>
-    requires { IsSome (tree_at (B.store bank.now) t) }
-    ensures { OnOk result
+    requires held { IsSome (tree_at (B.store bank.now) t) }
+    requires empty { inside.old.items ≡ [] }
+    ensures empty { OnOk result (inside.new.items ≡ []) }
+    ensures enters { OnOk result
         (Enters (B.store bank.now) t start visits.old.items visits.new.items) }
 {
-    let mut inside = direct(*visits.allocator(), bank, t)?;
+    push_direct(bank, t, inside)?;
     visits.push(Visit::Leave(t, start))?;
     while let Some(next) = inside.pop() {
         visits.push(Visit::Enter(next))?;
@@ -122,10 +120,7 @@ fn leave(
     ensures { OnOk result
         (Leaves t start parts.old finished.old.items parts.new finished.new.items) }
 {
-    let (index, is_new) = parts.terms.insert_full(t.0)?;
-    if index >= MOST {
-        return Err(AllocError);
-    }
+    let (index, is_new) = parts.terms.add(t.0)?;
     if is_new {
         parts.inside.extend_from_slice(&finished[start..])?;
         parts.bounds.push(parts.inside.len())?;
@@ -135,27 +130,28 @@ fn leave(
     Ok(())
 }
 
-/// Returns the parts of a tree. Looks a reference up once for each tree one step inside of a part,
-/// and takes expected time in proportion to the cells of the tree. Reports out of memory also if
-/// there are more than 2,147,483,648 parts.
+/// Returns the parts of a tree. Looks a reference up once for each tree one step inside of a part.
+/// Takes time in proportion to the cells of the tree, and to 1/1,024 of the greatest reference of a
+/// part. Reports out of memory also if there are more than 2,147,483,648 parts.
 pub(crate) fn find_parts<B: TermBank>(alloc: Global, bank: &B, t: Term) -> Result<Parts, AllocError>
     requires { IsSome (tree_at (B.store bank.now) t) }
     ensures { IfOk result (HasParts (B.store bank.now) (held_tree (B.store bank.now) t)) }
 {
     let mut parts = Parts {
-        terms: IndexSet::new(alloc),
+        terms: TermIndex::new(alloc),
         inside: Vec::new(alloc),
         bounds: Vec::new(alloc),
     };
     parts.bounds.push(0)?;
     let mut finished = Vec::new(alloc);
+    let mut inside = Vec::new(alloc);
     let mut visits = Vec::new(alloc);
     visits.push(Visit::Enter(t))?;
     while let Some(visit) = visits.pop() {
         match visit {
-            Visit::Enter(t) => match parts.terms.get_index_of(&t.0) {
+            Visit::Enter(t) => match parts.terms.index_of(t.0) {
                 Some(index) => finished.push(index as u32)?,
-                None => enter(bank, t, finished.len(), &mut visits)?,
+                None => enter(bank, t, finished.len(), &mut inside, &mut visits)?,
             },
             Visit::Leave(t, start) => leave(t, start, &mut parts, &mut finished)?,
         }

@@ -161,7 +161,7 @@ pub record Leaves (t : Term) (start : ℕ) (old : Parts) (before : List ℕ) (ne
   pub keys : new.terms.keys ≡ insert_key nat_eq old.terms.keys t.0
   pub within : index < length new.terms.keys
   pub found : get_or new.terms.keys index 0 ≡ t.0
-  pub few : length old.terms.keys ≤ 2 ^ 31 → length new.terms.keys ≤ 2 ^ 31
+  pub few : length new.terms.keys ≤ 2 ^ 31
   pub finished : now ≡ take start before ++ index ∷ []
   pub added : list_any (nat_eq t.0) old.terms.keys ≡ false → AddsPart start before old new
   pub kept : list_any (nat_eq t.0) old.terms.keys ≡ true → (new.inside.items ≡ old.inside.items) × (new.bounds.items ≡ old.bounds.items)

@@ -22,7 +22,7 @@ loop-made-preserved g c =
     let pushed : c.push.new.self.items ≡ made ++ copy ∷ [] = search rules in
     let test = c.loop-made-test.true in
     let first = c.len.ensures ∙ l.made.ok.0 in
-    let last = c.len-in-loop-made.ensures.len in
+    let last = c.len-in-loop-made.ensures in
     let lt : length made < length keys = omega (arith, test, first, last) in
     let size = ap length pushed ∙ length-append made (copy ∷ []) in
     let here = subst (λ z. AreMade v keys (λ t. t) m z) (sym c.deref.ensures.value) i.made in
@@ -40,7 +40,7 @@ unwrap-requires g c =
     let some = parts-some (g.B.TermBank.store c.args.from.now) c.requires.0 c.args.parts.now c.requires.1 in
     let test = c.loop-made-test.false in
     let first = c.len.ensures in
-    let last = c.len-in-loop-made.ensures.len in
+    let last = c.len-in-loop-made.ensures in
     c.pop.ensures.variant.1 (omega (arith, some, test, first, last))
 
 pub returns-clause-copied : goal.returns-clause-copied
@@ -50,6 +50,6 @@ returns-clause-copied g c = λ t h.
     let few = l.invariant.few in
     let test = c.loop-made-test.false in
     let first = c.len.ensures ∙ l.made.ok.0 in
-    let last = c.len-in-loop-made.ensures.len in
+    let last = c.len-in-loop-made.ensures in
     made-last v t c.args.parts.now h (λ t. t) (g.C.TermBank.store l.to) l.made.items l.invariant.made (omega (arith, few, test, first, last))
     c.pop.new.self.items c.unwrap.result (c.pop.ensures.items ∙ ap (λ o. c.pop.new.self.items ++ option_to_list o) c.unwrap.ensures)

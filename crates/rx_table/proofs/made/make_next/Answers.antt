@@ -19,7 +19,7 @@ make_part-requires-clause-items g c =
       f,
       next-have v c.args.parts.now.terms.keys f w c.args.made.now c.requires.made.1 c.requires.next c.inside_of.result.now c.as_slice.result.now
           c.deref.result.now c.inside_of.ensures.below (c.inside_of.ensures.trees v c.requires.parts.0 c.requires.parts.1)
-          (c.deref.ensures.value ∙ c.in-Ok.ensures) c.as_slice.ensures.keys,
+          (c.deref.ensures.value ∙ c.in-Ok.ensures) c.as_slice.ensures,
     )
 
 pub returns-clause-part : goal.returns-clause-part
@@ -34,7 +34,7 @@ returns-clause-part g c =
     ok-by (λ r. (f : Tree → Tree) → HaveTrees w items (map f (direct (part_tree v slice (length made))))
     → tree_at x r ≡ Some (remade f (part_tree v slice (length made))))
     (λ r. (f : Tree → Tree) → AreMade v keys f w made → tree_at x r ≡ Some (remade f (part_tree v keys (length made))))
-    (λ r k f h. subst (λ ks. tree_at x r ≡ Some (remade f (part_tree v ks (length made)))) c.as_slice.ensures.keys (k f
+    (λ r k f h. subst (λ ks. tree_at x r ≡ Some (remade f (part_tree v ks (length made)))) c.as_slice.ensures (k f
     (next-have v keys f w made h c.requires.next c.inside_of.result.now slice items c.inside_of.ensures.below
-    (c.inside_of.ensures.trees v c.requires.parts.0 c.requires.parts.1) (c.deref.ensures.value ∙ c.in-Ok.ensures) c.as_slice.ensures.keys)))
+    (c.inside_of.ensures.trees v c.requires.parts.0 c.requires.parts.1) (c.deref.ensures.value ∙ c.in-Ok.ensures) c.as_slice.ensures)))
     c.make_part.result c.make_part.ensures.part

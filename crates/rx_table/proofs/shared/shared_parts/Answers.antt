@@ -20,11 +20,11 @@ loop-alloc-preserved g c =
     let b = c.in_ok-is_shared.field-0 in
     let i = length old in
     let n = c.len-index.result in
-    let counts = subst (λ z. AreCounts z parts.inside.items uses) c.len.ensures.len
+    let counts = subst (λ z. AreCounts z parts.inside.items uses) c.len.ensures
     (subst (λ z. AreCounts c.len.result z uses) c.deref.ensures.value c.in_ok-uses.ensures) in
     let test = c.loop-alloc-test.true in
     let first = c.len-in-loop-alloc.ensures ∙ c.loop-alloc.shared.ok.0 in
-    let last = c.len-in-loop-alloc-2.ensures.len in
+    let last = c.len-in-loop-alloc-2.ensures in
     let lt : i < length keys = omega (arith, test, first, last) in
     let same : n ≡ i = c.len-index.ensures ∙ c.loop-alloc.shared.ok.0 in
     let all = counts.0 in
@@ -32,7 +32,7 @@ loop-alloc-preserved g c =
     ∙ ap (λ k. get_or uses k 0) same in
     let is = c.in_ok-is_shared.ensures ∙ ap (λ z. nat_le 2 z && nat_lt 8 (length (canon (part_tree w slice n)))) read
     ∙ ap (λ k. nat_le 2 (get_or uses i 0) && nat_lt 8 (length (canon (part_tree w slice k)))) same
-    ∙ ap (λ ks. nat_le 2 (get_or uses i 0) && nat_lt 8 (length (canon (part_tree w ks i)))) c.as_slice.ensures.keys in
+    ∙ ap (λ ks. nat_le 2 (get_or uses i 0) && nat_lt 8 (length (canon (part_tree w ks i)))) c.as_slice.ensures in
     let pushed = c.in_ok-push.ensures.items in
     let size : length new ≡ i + 1 = ap length pushed ∙ length-append old (b ∷ []) in
     let next = shared-next w c.requires.0 parts c.requires.1 uses counts i lt old new b c.loop-alloc.invariant.is is pushed in

@@ -18,7 +18,7 @@ returns-in_err-write_entry-clause-front g c =
     let element : List ℕ = canon (entry s (part_tree w c.as_slice.result.now i)) in
     let text : element_of g.B.TermBank.store p i ≡ element ++ 44 ∷ [] =
     some-text s (part_tree w keys i) (get_or p.numbers.numbers.now i None) (c.is_none.ensures ∙ ap not c.if-is_none.false)
-    ∙ ap (λ ks. canon (entry s (part_tree w ks i)) ++ 44 ∷ []) (sym c.as_slice.ensures.keys) in
+    ∙ ap (λ ks. canon (entry s (part_tree w ks i)) ++ 44 ∷ []) (sym c.as_slice.ensures) in
     on_err _ (front_of (g.W.Write.contents c.args.out.now.writer.now) (g.W.Write.contents c.write_entry.new.out.writer.now)
     (element_of g.B.TermBank.store p i) element (44 ∷ []) text c.in_err-write_entry.ensures.front)
 
@@ -32,7 +32,7 @@ returns-in_err-put-clause-front g c =
     let element : List ℕ = canon (entry s (part_tree w c.as_slice.result.now i)) in
     let text : element_of g.B.TermBank.store p i ≡ element ++ 44 ∷ [] =
     some-text s (part_tree w keys i) (get_or p.numbers.numbers.now i None) (c.is_none.ensures ∙ ap not c.if-is_none.false)
-    ∙ ap (λ ks. canon (entry s (part_tree w ks i)) ++ 44 ∷ []) (sym c.as_slice.ensures.keys) in
+    ∙ ap (λ ks. canon (entry s (part_tree w ks i)) ++ 44 ∷ []) (sym c.as_slice.ensures) in
     on_err _ (front_within (g.W.Write.contents c.args.out.now.writer.now) (g.W.Write.contents c.write_entry.new.out.writer.now)
     (g.W.Write.contents c.put.new.self.writer.now) (element_of g.B.TermBank.store p i) element (44 ∷ []) [] text
     c.in_ok-write_entry.ensures.written c.in_err-put.ensures.front)

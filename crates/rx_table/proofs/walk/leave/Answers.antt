@@ -1,9 +1,8 @@
-use Rattle.std.proofs.Common.{◌≡◌, ◌++◌, ◌∷◌, [], ◌∙◌, true, false, ap, arith, drop, refl, subst, sym}
+use Rattle.std.proofs.Common.{◌≡◌, ◌++◌, ◌∷◌, [], ◌∙◌, true, false, ap, drop, refl, subst, sym}
 use Rattle.std.proofs.lemmas.List.{take_rest}
 use Rattle.std.specs.Prelude.{not}
 use Rattle.rx_table.specs.Inner.Walk.{Leaves}
 use Rattle.rx_table.specs.declared.walk.Parts.{Parts}
-use Rattle.rx_table.proofs.WalkLemmas.{inserted-few, inserted-found}
 use Rattle.rx_table.proofs.walk.leave.Goals.{then-is_new+in_ok-extend_from_slice+in_ok-push, else-is_new}
 use Rattle.rx_table.proofs.walk.leave.Goals as goal
 
@@ -13,20 +12,17 @@ returns c =
     let old = c.args.parts.now in
     let before = c.args.finished.now.items in
     let now = c.push-2.new.self.items in
-    let keys = old.terms.keys in
     let e = c.in_ok-index.ensures in
     let index = c.in_ok-index.index in
-    let room = c.if-index-ge-MOST.false in
     let finished = c.in_ok-push-2.ensures.items ∙ ap (λ z. z ++ index ∷ []) c.truncate.ensures.items in
-    let found = inserted-found c.insert_full.new.self.keys t.0 index e.stored in
     elim c.if-is_new.branch [
       | then-is_new+in_ok-extend_from_slice+in_ok-push w ↦
           subst (λ (p : Parts). Leaves t c.args.start old before p now) (sym w.parts-is) (record {
             index = index;
             keys = e.keys;
             within = e.within;
-            found = found;
-            few = λ le. inserted-few keys c.insert_full.new.self.keys t.0 index e.keys e.index (omega (arith, room)) le;
+            found = e.found;
+            few = e.few;
             finished = finished;
             added = λ no. record {
               inside = w.in_ok-extend_from_slice.ensures.items
@@ -40,8 +36,8 @@ returns c =
             index = index;
             keys = e.keys;
             within = e.within;
-            found = found;
-            few = λ le. inserted-few keys c.insert_full.new.self.keys t.0 index e.keys e.index (omega (arith, room)) le;
+            found = e.found;
+            few = e.few;
             finished = finished;
             added = λ no. absurd (let k : true ≡ false = sym (ap not no) ∙ sym e.added ∙ w.if-is_new.false in cc k);
             kept = λ yes. (refl, refl);
